@@ -1,0 +1,4 @@
+pub mod Characters
+pub mod Utf8
+pub mod Trim
+pub mod Rule

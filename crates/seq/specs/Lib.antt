@@ -1,2 +1,4 @@
 pub mod Lists
 pub mod Ascii
+pub mod Decimal
+pub mod Computing

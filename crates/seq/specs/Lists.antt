@@ -1,5 +1,5 @@
 -- Functions on lists, by tests that compute.
-use Prim.Native.Nat.{ℕ, zero, suc, _+_, max}
+use Prim.Native.Nat.{ℕ, zero, suc, _+_, max, min}
 use mathlib.Core.Bool.{Bool, true, false, not, _&&_, _||_, cond}
 use mathlib.Core.List.{List, [], _∷_, _++_}
 use mathlib.Core.Option.{Option, none, some}
@@ -96,19 +96,16 @@ module _ {A : Type 0} where
   someIf false a = none
 
 module _ {A B : Type 0} where
-  unfoldable pub each : (A → B) → List A → List B
-  each f [] = []
-  each f (a ∷ rest) = f a ∷ each f rest
-
-  -- what f gives for each, end to end
-  unfoldable pub concatMap : (A → List B) → List A → List B
-  concatMap f [] = []
-  concatMap f (a ∷ rest) = f a ++ concatMap f rest
-
   -- what f gives at the first of the list where it gives something
   unfoldable pub firstSome : (A → Option B) → List A → Option B
   firstSome f [] = none
   firstSome f (a ∷ rest) = let later = firstSome f rest in orNext (f a) later
+
+-- the smallest, 0 of none
+unfoldable pub smallest : List ℕ → ℕ
+smallest [] = 0
+smallest (n ∷ []) = n
+smallest (n ∷ m ∷ ns) = min n (smallest (m ∷ ns))
 
 -- the position, counted from `at`, of the first that passes the test
 unfoldable pub firstAt : {A : Type 0} → (A → Bool) → ℕ → List A → Option ℕ

@@ -2,3 +2,4 @@ pub mod Characters
 pub mod Utf8
 pub mod Trim
 pub mod Rule
+pub mod Computing

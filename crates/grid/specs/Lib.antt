@@ -1,0 +1,17 @@
+pub mod Answer
+pub mod Limits
+pub mod Values
+pub mod Slots
+pub mod Rectangle
+pub mod Trace
+pub mod Layout
+pub mod Cut
+pub mod Read
+pub mod Same
+pub mod Cover
+pub mod Flat
+pub mod LayoutCall
+pub mod CutCall
+pub mod TableCall
+pub mod Listing
+pub mod Computing

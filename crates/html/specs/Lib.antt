@@ -1,0 +1,4 @@
+pub mod Shares
+pub mod Page
+pub mod PageCall
+pub mod Computing

@@ -1,0 +1,1 @@
+// Shares of columns and the page, as definitions in specs/.

@@ -1,0 +1,5 @@
+pub mod Positions
+pub mod PositionsCall
+pub mod LineEnds
+pub mod LineEndCalls
+pub mod Computing

@@ -108,6 +108,11 @@ pub fn hundredths(width: usize, total: usize) -> usize {
     (2 * width * 10_000 + total) / (2 * total)
 }
 
+/// The f64 beside the hundredths.
+pub fn share(hundredths: usize) -> f64 {
+    hundredths as f64 / 100.0
+}
+
 /// Hundredths as a decimal number without closing zeros.
 pub fn decimal(hundredths: usize) -> String {
     let whole = hundredths / 100;

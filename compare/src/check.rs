@@ -1,6 +1,7 @@
 //! `compare self`: the second reading of document 01 held against the Rust.
 
 mod beside;
+mod edge;
 mod sheets;
 mod tables;
 
@@ -38,6 +39,7 @@ impl Tally {
 pub fn run(seed: u64, n: usize) -> bool {
     let mut tally = Tally::default();
     all_characters(&mut tally);
+    edge::all(&mut tally);
     let mut rng = Rng::new(seed);
     for _ in 0..n {
         sheets::one(&mut rng, &mut tally);

@@ -86,8 +86,11 @@ fn position(p: Sourcepos) -> Position {
 fn place(rng: &mut Rng, tally: &mut Tally, sheet: &Sheet, read: &Layout) {
     let first = rng.below(3);
     let numbers: Vec<usize> = (0..sheet.lines).map(|r| first + r).collect();
-    let most = rng.pick(&[0, 4, limits::REGISTER_NUMBER, limits::REGISTER_NUMBER + 1]);
-    let bytes: Vec<usize> = (0..sheet.lines).map(|_| rng.between(0, most)).collect();
+    let most = rng.pick(&[0, 4, limits::REGISTER_NUMBER]);
+    let mut bytes: Vec<usize> = (0..sheet.lines).map(|_| rng.between(0, most)).collect();
+    if rng.once_in(50) {
+        bytes[sheet.lines - 1] = limits::REGISTER_NUMBER + 1;
+    }
     let answer = positions::positions(sheet, &numbers, &bytes, Space::ENOUGH);
     tally.count("positions", &answer);
     let Ok((_, paper)) = answer else {

@@ -1,5 +1,6 @@
 //! Inputs made from a seed: the same seed always gives the same inputs.
 
+pub mod edge;
 pub mod sheets;
 pub mod tables;
 pub mod text;

@@ -220,7 +220,7 @@ fn wrong_sizes(rng: &mut Rng) -> Sheet {
 }
 
 /// A plain grid of equal cells.
-fn even(columns: usize, rows: usize, width: usize, height: usize) -> Lines {
+pub fn even(columns: usize, rows: usize, width: usize, height: usize) -> Lines {
     let rule = format!("+{}", format!("{}+", "-".repeat(width)).repeat(columns));
     let inner = format!("|{}", format!("{}|", " ".repeat(width)).repeat(columns));
     let mut lines = vec![(rule.clone().into_bytes(), 0)];

@@ -1,7 +1,7 @@
 //! The character set, trimming and rule lines.
 
 /// First and last code point, and the columns each of the range takes.
-const RANGES: [(u32, u32, usize); 9] = [
+pub const RANGES: [(u32, u32, usize); 9] = [
     (0x20, 0x7E, 1),
     (0xA1, 0xAC, 1),
     (0xAE, 0x17F, 1),

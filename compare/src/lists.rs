@@ -84,7 +84,7 @@ fn trims(list: &mut List) {
         list.trim(line);
     }
     let mut rng = Rng::new(1);
-    for _ in 0..60 {
+    for _ in 0..90 {
         let length = rng.between(0, 14);
         let ending = rng.pick(&["", " ", "\t", " \t", "   "]);
         let line = text::line(&mut rng, text::Kind::Mixed, length) + ending;
@@ -175,7 +175,7 @@ fn decodes(list: &mut List) {
     }
     list.decode(usize::from(u16::MAX), b"a");
     let mut rng = Rng::new(3);
-    for _ in 0..60 {
+    for _ in 0..100 {
         let first = rng.pick(&[0x61, 0xC2, 0xC3, 0xCD, 0xE3, 0xE4, 0xEA, 0xED, 0xEF, 0xF0]);
         let mut bytes = vec![first];
         for _ in 0..rng.between(0, 3) {
@@ -205,7 +205,7 @@ fn widths(list: &mut List) {
         list.width(value);
     }
     let mut rng = Rng::new(4);
-    for _ in 0..60 {
+    for _ in 0..80 {
         let most = rng.pick(&[0x400, 0x4000, 0x11000]);
         list.width(rng.between(0, most) as u32);
     }

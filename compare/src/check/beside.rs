@@ -22,13 +22,19 @@ fn cut_any(rng: &mut Rng, tally: &mut Tally) {
     if rng.once_in(40) {
         text = " ".repeat(rng.between(511, 513));
     }
-    let range = (rng.below(text.len() + 2), rng.below(text.len() + 2));
-    let left = rng.pick(&[0, 1, 2, 3, 127, 128]);
+    let mut range = (rng.below(text.len() + 1), rng.below(text.len() + 1));
+    if rng.once_in(10) {
+        range.1 += 1;
+    } else if range.0 > range.1 {
+        range = (range.1, range.0);
+    }
+    let left = rng.pick(&[0, 1, 2, 3, 126, 127]) + usize::from(rng.once_in(20));
+    let number = |rng: &mut Rng| rng.pick(&[0, 1, 65_535]) + usize::from(rng.once_in(20));
     let line = Line {
         text: text.as_bytes(),
-        line: rng.pick(&[0, 1, 65_535, 65_536]),
-        byte: rng.pick(&[0, 1, 65_535, 65_536]),
-        column: rng.pick(&[0, 1, 2, 3, 255, 256]),
+        line: number(rng),
+        byte: number(rng),
+        column: rng.pick(&[0, 1, 2, 3, 254, 255]) + usize::from(rng.once_in(20)),
     };
     let answer = cut::cut(&line, range, left);
     tally.count("cut", &answer);
@@ -49,7 +55,13 @@ fn cut_any(rng: &mut Rng, tally: &mut Tally) {
 }
 
 fn find_and_remap(rng: &mut Rng, tally: &mut Tally) {
-    let most = rng.pick(&[2, 6, 12, 65_536]);
+    let (low, most) = rng.pick(&[(1, 2), (1, 6), (1, 12), (1, 65_535), (65_530, 65_537)]);
+    let least = if rng.once_in(10) { 0 } else { low };
+    let any_end = |rng: &mut Rng, lines: usize| {
+        let (a, b) = (rng.between(least, most), rng.between(least, most));
+        let (start, eol) = if rng.once_in(10) { (a, b) } else { (a.min(b), a.max(b)) };
+        (rng.between(least.min(1), lines), start, eol)
+    };
     let mut register = vec![];
     let count = if rng.once_in(2_000) {
         limits::REGISTER + 1
@@ -57,7 +69,7 @@ fn find_and_remap(rng: &mut Rng, tally: &mut Tally) {
         rng.between(0, 8)
     };
     for _ in 0..count {
-        let end = (rng.between(0, 2), rng.between(0, most), rng.between(0, most));
+        let end = any_end(rng, 2);
         let answer = ends::add(&register, end);
         tally.count("add", &answer);
         if let Ok(longer) = answer {
@@ -68,7 +80,7 @@ fn find_and_remap(rng: &mut Rng, tally: &mut Tally) {
         }
     }
     for _ in 0..4 {
-        let (line, column) = (rng.between(0, 3), rng.between(0, most));
+        let (line, column) = (rng.between(least.min(1), 3), rng.between(least, most));
         let answer = ends::find(&register, line, column);
         tally.count("find", &answer);
         if let Ok(paper) = answer {
@@ -80,7 +92,7 @@ fn find_and_remap(rng: &mut Rng, tally: &mut Tally) {
     }
 
     let fragments = [(7, rng.between(0, most)), (0, 3), (65_536, 0)];
-    let end = (rng.between(0, 4), rng.between(0, most), rng.between(0, most));
+    let end = any_end(rng, 4);
     let answer = ends::remap(end, &fragments);
     tally.count("remap", &answer);
     if let Ok(paper) = answer {

@@ -19,8 +19,8 @@ pub fn sheet(rng: &mut Rng) -> Sheet {
             }
             Sheet::of(&lines)
         }
-        75..=94 => Sheet::of(&small(rng)),
-        95..=97 => wrong_sizes(rng),
+        75..=95 => Sheet::of(&small(rng)),
+        96..=98 => wrong_sizes(rng),
         _ => at_limit(rng),
     }
 }
@@ -174,9 +174,12 @@ fn small(rng: &mut Rng) -> Lines {
         let mut line: Vec<u8> = (0..width).map(|_| rng.pick(b"+++-||=: x")).collect();
         if r == 0 || rng.once_in(4) {
             let fill = if r > 0 && rng.once_in(2) { b'=' } else { b'-' };
-            line = (0..width)
-                .map(|_| if rng.once_in(4) { b'+' } else { fill })
-                .collect();
+            line = vec![fill; width];
+            for x in (2..width.max(3) - 2).step_by(rng.between(1, 2)) {
+                if rng.once_in(3) {
+                    line[x] = b'+';
+                }
+            }
             if rng.once_in(6) {
                 let at = rng.below(width);
                 line[at] = b':';

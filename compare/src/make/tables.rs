@@ -12,7 +12,7 @@ pub fn table(rng: &mut Rng) -> (Table, usize) {
     match rng.below(100) {
         0..=54 => (valid(rng), origin),
         55..=74 => (splitting(rng), origin),
-        75..=94 => {
+        75..=96 => {
             let mut table = valid(rng);
             damage(rng, &mut table);
             (table, origin)
@@ -100,15 +100,17 @@ fn splitting(rng: &mut Rng) -> Table {
         rowspan: 1,
         lines: 0,
     };
-    let above = rng.between(0, 1);
+    let above = rng.pick(&[0, 1, 1, 1]);
     let mut row = 0;
     for _ in 0..above {
         places.extend((0..columns).map(|c| one(row, c, 1)));
         row += 1;
     }
-    let spanning = rng.between(1, 2);
+    let spanning = rng.pick(&[1, 1, 1, 2]);
+    let from = rng.pick(&[0, 0, columns - 2]);
     for _ in 0..spanning {
-        places.push(one(row, 0, columns));
+        places.extend((0..from).map(|c| one(row, c, 1)));
+        places.push(one(row, from, columns - from));
         row += 1;
     }
     places.extend((0..columns).map(|c| one(row, c, 1)));
@@ -117,7 +119,7 @@ fn splitting(rng: &mut Rng) -> Table {
     let cells: Vec<Vec<Vec<u8>>> = places
         .iter()
         .map(|place| {
-            let count = rng.between(0, 2);
+            let count = rng.pick(&[0, 1, 1, 1, 2]);
             (0..count)
                 .map(|_| {
                     if place.colspan == 1 {

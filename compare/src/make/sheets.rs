@@ -165,41 +165,46 @@ fn damage(rng: &mut Rng, lines: &mut Lines) {
     }
 }
 
-/// A few short lines over few signs; the first is most often a rule.
+/// A few short lines over few signs; the first is a rule, and the sides are
+/// most often borders.
 fn small(rng: &mut Rng) -> Lines {
-    let width = rng.between(2, 7);
+    let width = rng.between(2, 8);
     let height = rng.between(1, 7);
+    let signs: &[u8] = rng.pick(&[&b"+-|"[..], b"++-|", b"+++-||=: x"]);
     let mut lines = vec![];
     for r in 0..height {
-        let mut line: Vec<u8> = (0..width).map(|_| rng.pick(b"+++-||=: x")).collect();
-        if r == 0 || rng.once_in(4) {
-            let fill = if r > 0 && rng.once_in(2) { b'=' } else { b'-' };
-            line = vec![fill; width];
-            for x in (2..width.max(3) - 2).step_by(rng.between(1, 2)) {
-                if rng.once_in(3) {
-                    line[x] = b'+';
-                }
-            }
-            if rng.once_in(6) {
-                let at = rng.below(width);
-                line[at] = b':';
-            }
+        let ends = r == 0 || r + 1 == height;
+        let mut line: Vec<u8> = (0..width).map(|_| rng.pick(signs)).collect();
+        if r == 0 || rng.once_in(if ends { 2 } else { 5 }) {
+            let fill = if r > 0 && rng.once_in(3) { b'=' } else { b'-' };
+            line = rule(rng, width, fill);
         }
-        if !rng.once_in(10) {
-            line[0] = if r == 0 || r + 1 == height || line[0] != b'|' {
-                b'+'
-            } else {
-                b'|'
-            };
-            line[width - 1] = if r == 0 || r + 1 == height || rng.once_in(2) {
-                b'+'
-            } else {
-                b'|'
-            };
+        if !rng.once_in(30) {
+            line[0] = if ends || rng.once_in(2) { b'+' } else { b'|' };
+            line[width - 1] = if ends || rng.once_in(2) { b'+' } else { b'|' };
         }
         lines.push((line, 0));
     }
     lines
+}
+
+/// A line of the fill byte with some corners, no two of them side by side,
+/// and sometimes a colon.
+fn rule(rng: &mut Rng, width: usize, fill: u8) -> Vec<u8> {
+    let mut line = vec![fill; width];
+    let mut x = 2;
+    while x + 2 < width {
+        if rng.once_in(2) {
+            line[x] = b'+';
+            x += 1;
+        }
+        x += 1;
+    }
+    if rng.once_in(6) {
+        let at = rng.below(width);
+        line[at] = b':';
+    }
+    line
 }
 
 /// Sizes that the arrays contradict.

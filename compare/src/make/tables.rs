@@ -292,9 +292,11 @@ fn at_limit(rng: &mut Rng, origin: usize) -> (Table, usize) {
             table
         }
         14 => {
-            // A drawing of about 32,768 bytes: 127 lines of marks.
-            let line = "x".to_string() + &"\u{301}".repeat(125 + over);
-            even(rng, 1, 1, &vec![line.into_bytes(); 126])
+            // A drawing of 32,768 bytes, or of one mark more.
+            let line = "x".to_string() + &"\u{301}".repeat(128);
+            let mut lines = vec![line.into_bytes(); 126];
+            lines[0].extend("\u{301}".repeat(over).bytes());
+            even(rng, 1, 1, &lines)
         }
         _ => {
             let mut table = Table::default();

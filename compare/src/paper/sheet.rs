@@ -1,14 +1,24 @@
 //! A drawing as it is handed in, and the checks before its layout.
 
+use std::fmt;
+
 use super::{Answer, demand, limits, refuse, set, sum, within};
 
-#[derive(Clone, PartialEq, Eq, Debug, Default)]
+#[derive(Clone, PartialEq, Eq, Default)]
 pub struct Sheet {
     pub lines: usize,
     pub bytes: usize,
     pub lengths: Vec<usize>,
     pub columns: Vec<usize>,
     pub text: Vec<u8>,
+}
+
+/// The text as characters, so that a printed difference can be read.
+impl fmt::Debug for Sheet {
+    fn fmt(&self, f: &mut fmt::Formatter<'_>) -> fmt::Result {
+        let sizes = (self.lines, self.bytes, &self.lengths, &self.columns);
+        write!(f, "{sizes:?} \"{}\"", self.text.escape_ascii())
+    }
 }
 
 impl Sheet {

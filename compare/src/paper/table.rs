@@ -1,9 +1,11 @@
 //! A table as it is handed in, its checks up to the grid rules, and sameness.
 
+use std::fmt;
+
 use super::layout::{CENTER, FOOT};
 use super::{Answer, demand, limits, refuse, set, sum, within};
 
-#[derive(Clone, PartialEq, Eq, Debug, Default)]
+#[derive(Clone, PartialEq, Eq, Default)]
 pub struct Table {
     pub columns: usize,
     pub rows: usize,
@@ -26,6 +28,17 @@ pub struct Place {
     pub colspan: usize,
     pub rowspan: usize,
     pub lines: usize,
+}
+
+/// The text as characters, so that a printed difference can be read.
+impl fmt::Debug for Table {
+    fn fmt(&self, f: &mut fmt::Formatter<'_>) -> fmt::Result {
+        let sizes = [self.columns, self.rows, self.cells, self.lines, self.bytes];
+        let grid = (&self.alignments, &self.widths, &self.sections, &self.places);
+        let lines = &self.lengths;
+        let text = self.text.escape_ascii();
+        write!(f, "{sizes:?} {grid:?} {lines:?} \"{text}\"")
+    }
 }
 
 impl Table {

@@ -89,18 +89,21 @@ fn tree<'a>(
     contents: Vec<String>,
 ) -> Node<'a> {
     let (alignments, widths) = columns;
-    let columns = alignments.iter().zip(widths).map(|(&a, &width)| GridTableColumn {
-        alignment: ALIGNMENTS[a],
-        width,
-    });
+    let columns = alignments
+        .iter()
+        .zip(widths)
+        .map(|(&a, &width)| GridTableColumn {
+            alignment: ALIGNMENTS[a],
+            width,
+        });
     let value = NodeGridTable {
         columns: columns.collect(),
     };
     let table: Node<'a> = arena.alloc(NodeValue::GridTable(Box::new(value)).into());
-    let rows: Vec<Node<'a>> = sections
-        .iter()
-        .map(|&s| &*arena.alloc(NodeValue::GridTableRow(SECTIONS[s]).into()))
-        .collect();
+    let mut rows: Vec<Node<'a>> = vec![];
+    for &section in sections {
+        rows.push(arena.alloc(NodeValue::GridTableRow(SECTIONS[section]).into()));
+    }
     table.extend(rows.iter().copied());
     for (place, content) in places.iter().zip(contents) {
         let value = NodeGridTableCell {

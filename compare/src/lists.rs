@@ -75,11 +75,22 @@ fn decoded(bytes: &[u8], at: usize) -> Option<char> {
 }
 
 fn trims(list: &mut List) {
+    for body in [
+        "", "a", " a", "a b", "\ta", "+-+", "|", "\u{301}", "\u{4E2D}",
+    ] {
+        for ending in ["", " ", "\t", " \t", "\t  "] {
+            list.trim(&(body.to_string() + ending));
+        }
+    }
+    // White space elsewhere, but not here.
     for line in [
-        "", " ", "\t", "   ", "\t\t", " \t ", "a", "a ", "a\t", " a", "\ta", " a ", "a b", "a b ",
-        "a \t", "a\t ", "a \t \t", "+-+", "+-+ ", "+-+\t", "|  |", "|  | ", "|\t", "\u{301} ",
-        "\u{301}", "\u{4E2D} ", "\u{4E2D}", "\u{FF60}\t", "\u{D7A3}", "a\u{301} \t", "\u{3000}",
-        "a\u{A0}", "a\r", "a\n", "a\u{B}", "a\u{2003} ", "\u{85}", "a\0 ",
+        "a\r",
+        "a\n",
+        "a\u{B} ",
+        "a\u{A0}",
+        "\u{85}",
+        "\u{2003} ",
+        "\u{3000}",
     ] {
         list.trim(line);
     }
@@ -92,19 +103,16 @@ fn trims(list: &mut List) {
     }
 }
 
+const RULES: &str = "+ ++ +++ - -- = | -+ =+ +- += +-- +-+ +--+ +-++ ++-+ +-+- +-+-+ +-+--+---+
+    +=+ +==+=+ +=-+ +-=+ +-+=+ +:+ +::+ +:::+ +:-+ +-:+ +:-:+ +::-+ +-::+ +::-:+ +-:-+ +:-:-:+
+    +:--:+ +:=+ +=:+ +:=:+ +:==:+ +=:=+ +:+-+ +-+:+ +:-+-:+:-:+ +:-+:=+ x+-+ +x+ +-x+ +-|+
+    +-\u{301}+ +\u{4E2D}+ : :+ +: +:- +-: +:-: +-+: +-+:- +-+:-: +-+x";
+
 fn rules(list: &mut List) {
-    let mut lines: Vec<String> = [
-        "", "+", "++", "+++", "-", "--", "=", "|", "-+", "=+", "+-", "+=", "+--", "+-+", "+--+",
-        "+-++", "++-+", "+-+-", "+-+-+", "+-+--+---+", "+=+", "+==+=+", "+=-+", "+-=+", "+-+=+",
-        "+:+", "+::+", "+:::+", "+:-+", "+-:+", "+:-:+", "+::-+", "+-::+", "+::-:+", "+-:-+",
-        "+:-:-:+", "+:--:+", "+:=+", "+=:+", "+:=:+", "+:==:+", "+=:=+", "+:+-+", "+-+:+",
-        "+:-+-:+:-:+", "+:-+:=+", " +-+", "+-+ ", "+ +", "+- +", "+-\t+", "x+-+", "+x+", "+-x+",
-        "+-|+", "+-\u{301}+", "+\u{4E2D}+", ":", ":+", "+:", "+:-", "+-:", "+:-:", "+-+:", "+-+:-",
-        "+-+:-:", "+-+ +", "+-+x",
-    ]
-    .iter()
-    .map(|line| line.to_string())
-    .collect();
+    let mut lines: Vec<String> = RULES.split_whitespace().map(str::to_string).collect();
+    for line in ["", " +-+", "+-+ ", "+ +", "+- +", "+-\t+", "+-+ +"] {
+        lines.push(line.to_string());
+    }
     // A colon at every place of two rules, and every place left out.
     for rule in ["+---+--+-+", "+===+==+=+"] {
         for at in 0..rule.len() {
@@ -145,6 +153,23 @@ fn rules(list: &mut List) {
     }
 }
 
+/// Alone, cut short, overlong, surrogates, past the last code point, stray
+/// bytes behind the first.
+const BYTES: &str = "- 61 09 7f 80 8f 90 9f a0 bf c0 c1 c2 c3 df e0 e4 ed ef f0 f4 f5 f8 ff
+    c080 c1bf c27f c2a0 c2c0 c3a9a9 c361 cc80 cc8178 e08080 e09fbf e0a080 e381 e38181 e38161
+    e36181 e4b8 e4b8ad e4b8adad ed9ea3 ed9fbf eda080 edbfbf efbca1 efbfbf f0808080 f08fbfbf
+    f09f9880 f09f98 f48fbfbf f4908080 f5808080 ffffffff";
+
+fn unhex(word: &str) -> Vec<u8> {
+    if word == "-" {
+        return vec![];
+    }
+    (0..word.len())
+        .step_by(2)
+        .map(|i| u8::from_str_radix(&word[i..i + 2], 16).unwrap())
+        .collect()
+}
+
 fn decodes(list: &mut List) {
     let mut values: Vec<u32> = edges();
     values.extend([9, 10, 13, 0, 0x41, 0x7FF, 0x800, 0xFFFF, 0x10000, 0x10FFFF]);
@@ -154,19 +179,8 @@ fn decodes(list: &mut List) {
             list.decode(0, c.encode_utf8(&mut space).as_bytes());
         }
     }
-    let bytes: [&[u8]; 57] = [
-        b"", b"a", b"\t", b"\x7F", b"\x80", b"\x8F", b"\x90", b"\x9F", b"\xA0", b"\xBF", b"\xC0",
-        b"\xC1", b"\xC2", b"\xC3", b"\xDF", b"\xE0", b"\xE4", b"\xED", b"\xEF", b"\xF0", b"\xF4",
-        b"\xF5", b"\xF8", b"\xFF", b"\xC0\x80", b"\xC1\xBF", b"\xC2\x7F", b"\xC2\xA0",
-        b"\xC2\xC0", b"\xC3\xA9\xA9", b"\xC3a", b"\xCC\x80", b"\xCC\x81x", b"\xE0\x80\x80",
-        b"\xE0\x9F\xBF", b"\xE0\xA0\x80", b"\xE3\x81", b"\xE3\x81\x81", b"\xE3\x81a",
-        b"\xE3a\x81", b"\xE4\xB8", b"\xE4\xB8\xAD", b"\xE4\xB8\xAD\xAD", b"\xED\x9E\xA3",
-        b"\xED\x9F\xBF", b"\xED\xA0\x80", b"\xED\xBF\xBF", b"\xEF\xBC\xA1", b"\xEF\xBF\xBF",
-        b"\xF0\x80\x80\x80", b"\xF0\x8F\xBF\xBF", b"\xF0\x9F\x98\x80", b"\xF0\x9F\x98",
-        b"\xF4\x8F\xBF\xBF", b"\xF4\x90\x80\x80", b"\xF5\x80\x80\x80", b"\xFF\xFF\xFF\xFF",
-    ];
-    for bytes in bytes {
-        list.decode(0, bytes);
+    for word in BYTES.split_whitespace() {
+        list.decode(0, &unhex(word));
     }
     // Every offset of a mixed line, and some past its end.
     let mixed = "a\u{E9}\t\u{301}\u{3042}\u{4E2D}\u{D55C}|\u{FF21}\r\u{1F600}+".as_bytes();
@@ -199,8 +213,29 @@ fn widths(list: &mut List) {
         list.width(value);
     }
     for value in [
-        0, 1, 8, 9, 10, 13, 0x1F, 0x7F, 0x80, 0x9F, 0xA0, 0xAD, 0x200B, 0x3000, 0xD800, 0xDFFF,
-        0xE000, 0xFFFF, 0x10000, 0x1F600, 0x10FFFF, 0x110000, 0xFFFF_FFFF,
+        0,
+        1,
+        8,
+        9,
+        10,
+        13,
+        0x1F,
+        0x7F,
+        0x80,
+        0x9F,
+        0xA0,
+        0xAD,
+        0x200B,
+        0x3000,
+        0xD800,
+        0xDFFF,
+        0xE000,
+        0xFFFF,
+        0x10000,
+        0x1F600,
+        0x10FFFF,
+        0x110000,
+        0xFFFF_FFFF,
     ] {
         list.width(value);
     }

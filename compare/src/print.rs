@@ -126,7 +126,13 @@ fn table_case(rng: &mut Rng, table: &Table, origin: usize) -> String {
             space.bytes = rng.between(0, 50);
         }
     }
-    let sizes = [table.columns, table.rows, table.cells, table.lines, table.bytes];
+    let sizes = [
+        table.columns,
+        table.rows,
+        table.cells,
+        table.lines,
+        table.bytes,
+    ];
     let mut out = row("table", &sizes);
     out += &row("origin", &[origin]);
     out += &row("alignments", &table.alignments);

@@ -59,7 +59,11 @@ fn find_and_remap(rng: &mut Rng, tally: &mut Tally) {
     let least = if rng.once_in(10) { 0 } else { low };
     let any_end = |rng: &mut Rng, lines: usize| {
         let (a, b) = (rng.between(least, most), rng.between(least, most));
-        let (start, eol) = if rng.once_in(10) { (a, b) } else { (a.min(b), a.max(b)) };
+        let (start, eol) = if rng.once_in(10) {
+            (a, b)
+        } else {
+            (a.min(b), a.max(b))
+        };
         (rng.between(least.min(1), lines), start, eol)
     };
     let mut register = vec![];

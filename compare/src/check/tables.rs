@@ -63,9 +63,7 @@ fn reads_as(tally: &mut Tally, plain: &crate::paper::sheet::Sheet, table: &Table
     let paper = cut::read_table(plain);
     let same = paper.as_ref().is_ok_and(|read| table::same(read, table));
     let rust = given::layout(plain).map(|layout| cut::table_of(plain, &layout));
-    let rust_same = rust
-        .as_ref()
-        .is_some_and(|read| table::same(read, table));
+    let rust_same = rust.as_ref().is_some_and(|read| table::same(read, table));
     if same != rust_same {
         tally.differ("reading back", plain, &paper, &rust);
     }

@@ -18,6 +18,26 @@ fn byte_sheet(lines: &[&[u8]]) -> Sheet {
     Sheet::of(&lines)
 }
 
+/// Drawings of one byte a column that show how tracing goes.
+pub fn small_sheets() -> [&'static [&'static str]; 8] {
+    [
+        &["+-+", "+++", "+++"],
+        &["+-+-+", "+-++|", "|x+++", "+--++"],
+        &["+-+-+", "|   |", "+---+"],
+        &["+--:+--+", "|      |", "+------+"],
+        &["+---+", "|   |", "+:--+"],
+        &[
+            "+---+:--+",
+            "|       |",
+            "+---+---+",
+            "|   |   |",
+            "+---+---+",
+        ],
+        &["+-+", "+=+", "+-+", "+=+"],
+        &["+-+-+-+", "| | | |", "| +-+ |", "| | | |", "+-+-+-+"],
+    ]
+}
+
 pub fn sheets() -> Vec<(Sheet, Listed)> {
     let mut cases = vec![
         (sheet(&["+"]), Err((6, 0))),
@@ -31,8 +51,10 @@ pub fn sheets() -> Vec<(Sheet, Listed)> {
         ),
         (
             sheet(&["+-+", "+++", "+++"]),
-            Ok("grid 3 3 2 2 3;col 0 0 N;col 1 0 N;row 0 B 0 1;row 1 B 1 2;\
-                cell 0 0 2 1 0;cell 1 0 1 1 0;cell 1 1 1 1 0"),
+            Ok(
+                "grid 3 3 2 2 3;col 0 0 N;col 1 0 N;row 0 B 0 1;row 1 B 1 2;\
+                cell 0 0 2 1 0;cell 1 0 1 1 0;cell 1 1 1 1 0",
+            ),
         ),
         (sheet(&["++", "++"]), Err((4, 0))),
         (sheet(&["+::+"]), Err((4, 0))),
@@ -61,19 +83,31 @@ pub fn sheets() -> Vec<(Sheet, Listed)> {
         ),
         (sheet(&["+---+", "|   |", "+:--+"]), Err((6, 0))),
         (
-            sheet(&["+---+:--+", "|       |", "+---+---+", "|   |   |", "+---+---+"]),
-            Ok("grid 9 5 2 2 3;col 0 3 N;col 1 3 L;row 0 B 0 2;row 1 B 2 4;\
-                cell 0 0 2 1 1;cell 1 0 1 1 1;cell 1 1 1 1 1"),
+            sheet(&[
+                "+---+:--+",
+                "|       |",
+                "+---+---+",
+                "|   |   |",
+                "+---+---+",
+            ]),
+            Ok(
+                "grid 9 5 2 2 3;col 0 3 N;col 1 3 L;row 0 B 0 2;row 1 B 2 4;\
+                cell 0 0 2 1 1;cell 1 0 1 1 1;cell 1 1 1 1 1",
+            ),
         ),
         (
             sheet(&["+-+", "+=+", "+-+", "+=+"]),
-            Ok("grid 3 4 1 3 3;col 0 1 N;row 0 H 0 1;row 1 F 1 2;row 2 F 2 3;\
-                cell 0 0 1 1 0;cell 1 0 1 1 0;cell 2 0 1 1 0"),
+            Ok(
+                "grid 3 4 1 3 3;col 0 1 N;row 0 H 0 1;row 1 F 1 2;row 2 F 2 3;\
+                cell 0 0 1 1 0;cell 1 0 1 1 0;cell 2 0 1 1 0",
+            ),
         ),
         (
             sheet(&["+-+", "+=+", "+=+", "+-+"]),
-            Ok("grid 3 4 1 3 3;col 0 1 N;row 0 H 0 1;row 1 B 1 2;row 2 B 2 3;\
-                cell 0 0 1 1 0;cell 1 0 1 1 0;cell 2 0 1 1 0"),
+            Ok(
+                "grid 3 4 1 3 3;col 0 1 N;row 0 H 0 1;row 1 B 1 2;row 2 B 2 3;\
+                cell 0 0 1 1 0;cell 1 0 1 1 0;cell 2 0 1 1 0",
+            ),
         ),
         (
             sheet(&["+--+", "+=\u{301}=+", "+--+"]),
@@ -85,8 +119,10 @@ pub fn sheets() -> Vec<(Sheet, Listed)> {
         ),
         (
             sheet(&["+-+", "+++", "||\u{301}|", "+++"]),
-            Ok("grid 3 4 2 2 3;col 0 0 N;col 1 0 N;row 0 B 0 1;row 1 B 1 3;\
-                cell 0 0 2 1 0;cell 1 0 1 1 1;cell 1 1 1 1 1"),
+            Ok(
+                "grid 3 4 2 2 3;col 0 0 N;col 1 0 N;row 0 B 0 1;row 1 B 1 3;\
+                cell 0 0 2 1 0;cell 1 0 1 1 1;cell 1 1 1 1 1",
+            ),
         ),
         (
             sheet(&["+-+", "| |", "+-+"]),

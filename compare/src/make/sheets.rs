@@ -2,7 +2,7 @@
 //! the limits.
 
 use super::text::{self, Kind};
-use super::{Rng, tiling};
+use super::{Rng, edge, tiling};
 use crate::paper::sheet::Sheet;
 use crate::paper::table::Place;
 
@@ -19,7 +19,8 @@ pub fn sheet(rng: &mut Rng) -> Sheet {
             }
             Sheet::of(&lines)
         }
-        75..=95 => Sheet::of(&small(rng)),
+        75..=79 => Sheet::of(&stretched(rng)),
+        80..=95 => Sheet::of(&small(rng)),
         96..=98 => wrong_sizes(rng),
         _ => at_limit(rng),
     }
@@ -163,6 +164,35 @@ fn damage(rng: &mut Rng, lines: &mut Lines) {
         11 => lines[r].0.truncate(at),
         _ => {}
     }
+}
+
+/// One of the papers' own drawings with columns and lines doubled, so that it
+/// keeps its shape.
+fn stretched(rng: &mut Rng) -> Lines {
+    let sheets = edge::small_sheets();
+    let mut lines: Vec<Vec<u8>> = rng
+        .pick(&sheets)
+        .iter()
+        .map(|l| l.bytes().collect())
+        .collect();
+    for _ in 0..rng.between(0, 4) {
+        let x = rng.between(1, lines[0].len() - 1);
+        if lines[0][x] == b'+' || lines.iter().any(|line| line.len() <= x) {
+            continue;
+        }
+        for line in &mut lines {
+            line.insert(x, line[x]);
+        }
+    }
+    for _ in 0..rng.between(0, 2) {
+        let r = rng.below(lines.len());
+        lines.insert(r, lines[r].clone());
+    }
+    let mut lines: Lines = lines.into_iter().map(|line| (line, 0)).collect();
+    if rng.once_in(3) {
+        damage(rng, &mut lines);
+    }
+    lines
 }
 
 /// A few short lines over few signs; the first is a rule, and the sides are

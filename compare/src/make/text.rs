@@ -13,7 +13,14 @@ const SIGNS: [char; 8] = ['|', '|', '+', '-', '=', ':', ' ', 'x'];
 const PLAIN: [char; 6] = ['a', 'b', 'c', ' ', ' ', '1'];
 /// Not in the set.
 const OUTSIDE: [char; 8] = [
-    '\0', '\r', '\u{7F}', '\u{A0}', '\u{AD}', '\u{180}', '\u{3000}', '\u{1F600}',
+    '\0',
+    '\r',
+    '\u{7F}',
+    '\u{A0}',
+    '\u{AD}',
+    '\u{180}',
+    '\u{3000}',
+    '\u{1F600}',
 ];
 /// Not UTF-8.
 pub const BROKEN: [&[u8]; 6] = [
@@ -33,7 +40,13 @@ pub enum Kind {
 }
 
 pub fn kind(rng: &mut Rng) -> Kind {
-    rng.pick(&[Kind::Plain, Kind::Signs, Kind::Signs, Kind::Mixed, Kind::Mixed])
+    rng.pick(&[
+        Kind::Plain,
+        Kind::Signs,
+        Kind::Signs,
+        Kind::Mixed,
+        Kind::Mixed,
+    ])
 }
 
 pub fn character(rng: &mut Rng, kind: Kind) -> char {

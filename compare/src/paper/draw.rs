@@ -149,11 +149,7 @@ fn write_line(slots: &mut [String], start: usize, line: &str, origin: usize) {
 
 fn widest(lines: &[&str]) -> usize {
     let columns = |c: char| {
-        if c == '\t' {
-            4
-        } else {
-            set::columns_at(c, 0)
-        }
+        if c == '\t' { 4 } else { set::columns_at(c, 0) }
     };
     lines
         .iter()

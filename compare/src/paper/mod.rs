@@ -33,7 +33,11 @@ pub fn demand(holds: bool) -> Answer<()> {
 
 /// 2 where a number passes its limit.
 pub fn within(number: usize, limit: usize) -> Answer<()> {
-    if number <= limit { Ok(()) } else { refuse(2, 0) }
+    if number <= limit {
+        Ok(())
+    } else {
+        refuse(2, 0)
+    }
 }
 
 /// 12 where an output array is shorter than its result.

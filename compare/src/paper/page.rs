@@ -65,7 +65,11 @@ fn written(table: &PageTable, widths: bool) -> Vec<u8> {
         while cell < table.cells && table.places[cell].row == row {
             out.extend(opening(table, cell).bytes());
             out.extend(&table.inner[at..at + table.lengths[cell]]);
-            out.extend(if section == HEAD { b"</th>\n" } else { b"</td>\n" });
+            out.extend(if section == HEAD {
+                b"</th>\n"
+            } else {
+                b"</td>\n"
+            });
             at += table.lengths[cell];
             cell += 1;
         }

@@ -135,12 +135,7 @@ impl Table {
 }
 
 /// 1, then the limits of 2 that a page has too.
-pub fn check_grid_sizes(
-    columns: usize,
-    rows: usize,
-    cells: usize,
-    widths: &[usize],
-) -> Answer<()> {
+pub fn check_grid_sizes(columns: usize, rows: usize, cells: usize, widths: &[usize]) -> Answer<()> {
     if columns == 0 || rows == 0 || cells == 0 {
         return refuse(1, 0);
     }
@@ -153,12 +148,7 @@ pub fn check_grid_sizes(
     Ok(())
 }
 
-pub fn keeps_grid_rules(
-    columns: usize,
-    rows: usize,
-    sections: &[usize],
-    places: &[Place],
-) -> bool {
+pub fn keeps_grid_rules(columns: usize, rows: usize, sections: &[usize], places: &[Place]) -> bool {
     let in_grid = |p: &Place| {
         p.row < rows
             && p.column < columns

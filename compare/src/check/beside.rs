@@ -4,7 +4,9 @@ use super::Tally;
 use crate::given;
 use crate::make::{self, Rng, text};
 use crate::paper::cut::{self, Line};
+use crate::paper::layout::{BODY, NONE};
 use crate::paper::page::{self, PageTable};
+use crate::paper::table::Place;
 use crate::paper::{ends, limits};
 use crate::parser::grid_table::{self, PlacedLine};
 
@@ -147,13 +149,36 @@ fn pages(rng: &mut Rng, tally: &mut Tally) {
     }
 }
 
-/// The Rust's own words for a column's share.
+/// A column's share, as the Rust prints it for two columns.
 fn share(rng: &mut Rng, tally: &mut Tally) {
     let total = rng.between(1, limits::COLUMNS * limits::WIDTH);
     let width = rng.between(0, total.min(limits::WIDTH));
+    let place = |column: usize| Place {
+        row: 0,
+        column,
+        colspan: 1,
+        rowspan: 1,
+        lines: 0,
+    };
+    let table = PageTable {
+        columns: 2,
+        rows: 1,
+        cells: 2,
+        bytes: 0,
+        alignments: vec![NONE; 2],
+        widths: vec![width, total - width],
+        sections: vec![BODY],
+        places: vec![place(0), place(1)],
+        lengths: vec![0; 2],
+        inner: vec![],
+    };
+    let page = String::from_utf8(given::page(&table, true)).unwrap();
+    let (_, rest) = page.split_once("width:").unwrap();
+    let (printed, _) = rest.split_once('%').unwrap();
     let hundredths = page::hundredths(width, total);
-    let percent = (width as f64 * 10000.0 / total as f64).round() / 100.0;
-    if page::share(hundredths) != percent || page::decimal(hundredths) != percent.to_string() {
-        tally.differ("share", &(width, total), &hundredths, &percent);
+    let agrees = page::decimal(hundredths) == printed
+        && printed.parse::<f64>() == Ok(page::share(hundredths));
+    if !agrees {
+        tally.differ("share", &(width, total), &hundredths, &printed);
     }
 }

@@ -85,6 +85,11 @@ fn find_and_remap(rng: &mut Rng, tally: &mut Tally) {
             register.push((1, 1, 1));
         }
     }
+    // A register handed in may hold anything.
+    for _ in 0..rng.pick(&[0, 0, 0, 3]) {
+        let (start, eol) = (rng.between(0, most), rng.between(0, most));
+        register.push((rng.between(0, 2), start, eol));
+    }
     for _ in 0..4 {
         let (line, column) = (rng.between(least.min(1), 3), rng.between(least, most));
         let answer = ends::find(&register, line, column);

@@ -9,6 +9,7 @@ use crate::paper::layout::{self, Layout, Space};
 use crate::paper::positions::{self, Position};
 use crate::paper::sheet::Sheet;
 use crate::paper::{limits, listing, redraw, set};
+use crate::parser::grid_table;
 
 pub fn one(rng: &mut Rng, tally: &mut Tally) {
     let sheet = make::sheets::sheet(rng);
@@ -44,8 +45,7 @@ fn accepted(rng: &mut Rng, tally: &mut Tally, sheet: &Sheet, read: &Layout) {
     place(rng, tally, sheet, read);
 
     let table = cut::table_of(sheet, read);
-    let columns: Vec<usize> = sheet.columns.clone();
-    let origin = columns[0];
+    let origin = sheet.columns[0];
     if let Err(refusal) = redraw::check_table(&table, origin) {
         tally.differ("a table read is a table", sheet, &refusal, &());
         return;
@@ -156,13 +156,13 @@ fn rules(tally: &mut Tally, sheet: &Sheet) {
         let Ok(line) = std::str::from_utf8(sheet.line(r)) else {
             continue;
         };
-        let rust = crate::parser::grid_table::trim_end(line);
+        let rust = grid_table::trim_end(line);
         if set::trimmed(line.as_bytes()) != rust.as_bytes() {
             tally.differ("trim_end", &line, &(), &rust);
         }
         for fill in *b"-=" {
             let paper = set::is_rule(rust.as_bytes(), fill);
-            if paper != crate::parser::grid_table::is_rule(rust, fill) {
+            if paper != grid_table::is_rule(rust, fill) {
                 tally.differ("is_rule", &(line, fill), &paper, &!paper);
             }
         }

@@ -5,6 +5,7 @@ use super::Tally;
 use crate::given;
 use crate::make::{self, Rng};
 use crate::paper::redraw::{self, Space};
+use crate::paper::sheet::Sheet;
 use crate::paper::table::{self, Table};
 use crate::paper::{Refusal, cut};
 
@@ -59,7 +60,7 @@ pub fn round_trip(tally: &mut Tally, table: &Table, origin: usize) {
 }
 
 /// Whether the Rust, cutting included, reads a drawing as this table.
-fn reads_as(tally: &mut Tally, plain: &crate::paper::sheet::Sheet, table: &Table) -> bool {
+fn reads_as(tally: &mut Tally, plain: &Sheet, table: &Table) -> bool {
     let paper = cut::read_table(plain);
     let same = paper.as_ref().is_ok_and(|read| table::same(read, table));
     let rust = given::layout(plain).map(|layout| cut::table_of(plain, &layout));

@@ -1,0 +1,3 @@
+//! The given html/grid_table.rs.
+
+include!(concat!(env!("COMRAK_DIR"), "/src/html/grid_table.rs"));

@@ -1,0 +1,64 @@
+//! The given Rust, run on the arguments of document 01, and a second reading
+//! of that document beside it. README.md has the commands.
+
+mod arena;
+mod check;
+mod cm;
+mod given;
+mod html;
+mod lists;
+mod make;
+mod nodes;
+mod options;
+mod paper;
+mod parser;
+mod print;
+
+include!(concat!(env!("OUT_DIR"), "/arena_tree_mod.rs"));
+
+// The given files name these at the crate's root.
+pub(crate) use nodes::node_matches;
+pub use options::Options;
+
+use std::io;
+use std::path::Path;
+use std::process::ExitCode;
+
+const USAGE: &str = "usage: compare self SEED N
+       compare sheets SEED N
+       compare tables SEED N
+       compare lists DIR";
+
+fn main() -> ExitCode {
+    let arguments: Vec<String> = std::env::args().skip(1).collect();
+    let words: Vec<&str> = arguments.iter().map(String::as_str).collect();
+    match run(&words) {
+        Some(Ok(true)) => ExitCode::SUCCESS,
+        Some(Ok(false)) => ExitCode::FAILURE,
+        Some(Err(error)) => {
+            eprintln!("compare: {error}");
+            ExitCode::FAILURE
+        }
+        None => {
+            eprintln!("{USAGE}");
+            ExitCode::from(2)
+        }
+    }
+}
+
+/// None where the words are no command; true where no difference was found.
+fn run(words: &[&str]) -> Option<io::Result<bool>> {
+    match *words {
+        ["lists", folder] => Some(lists::write(Path::new(folder)).map(|()| true)),
+        [command, seed, n] => {
+            let (seed, n) = (seed.parse().ok()?, n.parse().ok()?);
+            match command {
+                "self" => Some(Ok(check::run(seed, n))),
+                "sheets" => Some(print::sheets(seed, n).map(|()| true)),
+                "tables" => Some(print::tables(seed, n).map(|()| true)),
+                _ => None,
+            }
+        }
+        _ => None,
+    }
+}

@@ -1,0 +1,200 @@
+//! The given grid_table/mod.rs, its layout.rs with it, and public doors to
+//! what is private in them.
+#![allow(dead_code)]
+
+include!(concat!(env!("COMRAK_DIR"), "/src/parser/grid_table/mod.rs"));
+
+pub use doors::*;
+
+mod doors {
+    use super::layout::{self, Line};
+    use super::{CellLineEnd, Pending, PendingLine};
+    use crate::nodes::{
+        Arena, Ast, GridTableColumn, GridTableSection, Node, NodeGridTableCell, NodeValue,
+        Sourcepos,
+    };
+    use crate::options::Options;
+    use crate::parser::Parser;
+    use crate::parser::fragments::Fragment;
+    use crate::parser::inlines::Delimiters;
+
+    pub struct ReadRow {
+        pub section: GridTableSection,
+        pub top: usize,
+        pub bottom: usize,
+        pub cells: Vec<ReadCell>,
+    }
+
+    pub struct ReadCell {
+        pub value: NodeGridTableCell,
+        pub left: usize,
+        pub content: Vec<(usize, usize)>,
+    }
+
+    pub fn trim_end(text: &str) -> &str {
+        layout::trim_end(text)
+    }
+
+    pub fn is_rule(text: &str, fill: u8) -> bool {
+        layout::is_rule(text, fill)
+    }
+
+    /// `layout` over lines given as text and column.
+    pub fn layout(lines: &[(&str, usize)]) -> Option<(Vec<GridTableColumn>, Vec<ReadRow>)> {
+        let lines: Vec<Line<'_>> = lines
+            .iter()
+            .map(|&(text, column)| Line { text, column })
+            .collect();
+        let read = layout::layout(&lines)?;
+        let rows = read.rows.into_iter().map(|row| ReadRow {
+            section: row.section,
+            top: row.top,
+            bottom: row.bottom,
+            cells: row.cells.into_iter().map(read_cell).collect(),
+        });
+        Some((read.columns, rows.collect()))
+    }
+
+    fn read_cell(cell: layout::Cell) -> ReadCell {
+        ReadCell {
+            value: cell.value,
+            left: cell.left,
+            content: cell.content.iter().map(|r| (r.start, r.end)).collect(),
+        }
+    }
+
+    /// A line of a drawing with its number, the byte where the table starts
+    /// on it, and its column.
+    pub struct PlacedLine<'t> {
+        pub text: &'t str,
+        pub line: usize,
+        pub byte: usize,
+        pub column: usize,
+    }
+
+    fn pending<'a>(node: Node<'a>, lines: &[PlacedLine<'_>]) -> Pending<'a> {
+        let mut text = String::new();
+        let mut kept = vec![];
+        for line in lines {
+            let start = text.len();
+            text.push_str(line.text);
+            kept.push(PendingLine {
+                start,
+                end: text.len(),
+                eol: text.len(),
+                line: line.line,
+                byte: line.byte,
+                column: line.column,
+                table_byte: line.byte,
+                table_column: line.column,
+            });
+        }
+        Pending {
+            node,
+            indent: 0,
+            text,
+            lines: kept,
+            layout: None,
+        }
+    }
+
+    /// A cut line: its text, line, byte and column.
+    pub type CutLine = (String, usize, usize, usize);
+
+    /// `cell_fragment` for one line and one range of it.
+    pub fn cut(line: PlacedLine<'_>, range: (usize, usize), left: usize) -> CutLine {
+        let arena = Arena::new();
+        let node = arena.alloc(NodeValue::Document.into());
+        let pending = pending(node, &[line]);
+        let f = super::cell_fragment(&pending, &pending.lines[0], range.0..range.1, left);
+        (f.text.to_string(), f.line, f.byte, f.column)
+    }
+
+    /// What `build_grid_table` makes of a drawing that `layout` accepts.
+    pub struct Built {
+        pub table: Sourcepos,
+        pub rows: Vec<Sourcepos>,
+        pub cells: Vec<(Sourcepos, Vec<CutLine>)>,
+    }
+
+    pub fn build(lines: &[PlacedLine<'_>]) -> Option<Built> {
+        let arena = Arena::new();
+        let options = Options::default();
+        let root = arena.alloc(NodeValue::Document.into());
+        let table = arena.alloc(NodeValue::Document.into());
+        let mut parser = Parser::new(&arena, root, &options, None, &Delimiters);
+        let pending = pending(table, lines);
+        let read = pending.layout()?;
+        let mut ast = Ast::new(NodeValue::Document, (0, 0).into());
+        parser.build_grid_table(table, &mut ast, &pending, read);
+
+        let mut built = Built {
+            table: ast.sourcepos,
+            rows: vec![],
+            cells: vec![],
+        };
+        for row in table.children() {
+            built.rows.push(row.data().sourcepos);
+            for cell in row.children() {
+                let cut = cell.children().map(cut_line).collect();
+                built.cells.push((cell.data().sourcepos, cut));
+            }
+        }
+        Some(built)
+    }
+
+    fn cut_line(node: Node<'_>) -> CutLine {
+        let ast = node.data();
+        let NodeValue::CutLine(text, column) = &ast.value else {
+            unreachable!()
+        };
+        let start = ast.sourcepos.start;
+        (text.clone(), start.line, start.column, *column)
+    }
+
+    /// `place_cell_line_ends` over ends (line, start, eol): the eol found at
+    /// each asked line and column.
+    pub fn find_line_ends(
+        ends: &[(usize, usize, usize)],
+        asked: &[(usize, usize)],
+    ) -> Vec<Option<usize>> {
+        let arena = Arena::new();
+        let options = Options::default();
+        let root = arena.alloc(NodeValue::Document.into());
+        for &(line, column) in asked {
+            let place = (line, column, 0, 0).into();
+            let ast = Ast::new_with_sourcepos(NodeValue::SoftBreak, place);
+            root.append(arena.alloc(ast.into()));
+        }
+        let mut parser = Parser::new(&arena, root, &options, None, &Delimiters);
+        for &(line, start, eol) in ends {
+            parser.cell_line_ends.push(CellLineEnd { line, start, eol });
+        }
+        parser.place_cell_line_ends();
+        // An end that is found sets the break's own end, which was line 0.
+        root.children()
+            .map(|node| node.data().sourcepos)
+            .map(|place| (place.end.line != 0).then_some(place.start.column))
+            .collect()
+    }
+
+    /// `CellLineEnd::remap` over fragments given as line and byte.
+    pub fn remap(
+        end: (usize, usize, usize),
+        fragments: &[(usize, usize)],
+    ) -> (usize, usize, usize) {
+        let fragments: Vec<Fragment<'_>> = fragments
+            .iter()
+            .map(|&(line, byte)| Fragment {
+                text: "",
+                eol: "",
+                line,
+                byte,
+                column: 0,
+            })
+            .collect();
+        let (line, start, eol) = end;
+        let end = CellLineEnd { line, start, eol }.remap(&fragments);
+        (end.line, end.start, end.eol)
+    }
+}

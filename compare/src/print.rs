@@ -1,0 +1,156 @@
+//! `compare sheets` and `compare tables`: inputs with their answers, a word
+//! and numbers a line. README.md has the form.
+
+use std::io::{self, Write};
+
+use crate::make::{self, Rng, edge};
+use crate::paper::cut::{self, Line};
+use crate::paper::layout::{self, Layout, Space};
+use crate::paper::sheet::Sheet;
+use crate::paper::table::Table;
+use crate::paper::{Refusal, listing, redraw};
+
+/// Bytes as lower-case hexadecimal pairs, `-` for none.
+pub fn hex(bytes: &[u8]) -> String {
+    if bytes.is_empty() {
+        return "-".to_string();
+    }
+    bytes.iter().map(|b| format!("{b:02x}")).collect()
+}
+
+fn row(word: &str, numbers: &[usize]) -> String {
+    let mut out = word.to_string();
+    for number in numbers {
+        out += &format!(" {number}");
+    }
+    out + "\n"
+}
+
+fn refused(refusal: Refusal) -> String {
+    row("refused", &[refusal.number, refusal.place])
+}
+
+pub fn sheets(seed: u64, n: usize) -> io::Result<()> {
+    let mut out = io::stdout().lock();
+    let mut rng = Rng::new(seed);
+    let mut fixed = edge::sheets().into_iter();
+    for _ in 0..n {
+        let sheet = match fixed.next() {
+            Some((sheet, _)) => sheet,
+            None => make::sheets::sheet(&mut rng),
+        };
+        out.write_all(sheet_case(&mut rng, &sheet).as_bytes())?;
+    }
+    Ok(())
+}
+
+fn sheet_case(rng: &mut Rng, sheet: &Sheet) -> String {
+    let mut space = Space {
+        columns: 127,
+        rows: 127,
+        cells: 1_024,
+        inner: 16_384,
+    };
+    if rng.once_in(16) {
+        let short = rng.below(3);
+        match rng.below(4) {
+            0 => space.columns = short,
+            1 => space.rows = short,
+            2 => space.cells = short,
+            _ => space.inner = short,
+        }
+    }
+    let mut out = row("sheet", &[sheet.lines, sheet.bytes]);
+    out += &row("lengths", &sheet.lengths);
+    out += &row("columns", &sheet.columns);
+    out += &format!("text {}\n", hex(&sheet.text));
+    let spaces = [space.columns, space.rows, space.cells, space.inner];
+    out += &row("space", &spaces);
+    match layout::read(sheet, space) {
+        Ok(read) => {
+            out += &listing::listed(&read);
+            out += &cut_lines(sheet, &read);
+        }
+        Err(refusal) => out += &refused(refusal),
+    }
+    out + "end\n"
+}
+
+/// Each cell's left column and number of lines in the table read; each inner
+/// line's range, and its cut line's range, byte and column at table byte 0.
+fn cut_lines(sheet: &Sheet, read: &Layout) -> String {
+    let mut out = String::new();
+    let table = cut::table_of(sheet, read);
+    for (i, cell) in read.cells.iter().enumerate() {
+        out += &row("left", &[i, cell.left, table.places[i].lines]);
+        let top = read.rows[cell.row].top;
+        for (k, &range) in cell.inner.iter().enumerate() {
+            let r = top + 1 + k;
+            let line = Line {
+                text: sheet.line(r),
+                line: r,
+                byte: 0,
+                column: sheet.columns[r],
+            };
+            let f = cut::cut(&line, range, cell.left).unwrap();
+            let numbers = [r, range.0, range.1, f.start, f.end, f.byte, f.column];
+            out += &row("cut", &numbers);
+        }
+    }
+    out
+}
+
+pub fn tables(seed: u64, n: usize) -> io::Result<()> {
+    let mut out = io::stdout().lock();
+    let mut rng = Rng::new(seed);
+    let mut fixed = edge::tables().into_iter();
+    for _ in 0..n {
+        let (table, origin) = match fixed.next() {
+            Some((table, _)) => (table, 0),
+            None => make::tables::table(&mut rng),
+        };
+        out.write_all(table_case(&mut rng, &table, origin).as_bytes())?;
+    }
+    Ok(())
+}
+
+fn table_case(rng: &mut Rng, table: &Table, origin: usize) -> String {
+    let mut space = redraw::Space {
+        lines: 128,
+        bytes: 32_768,
+    };
+    if rng.once_in(16) {
+        if rng.once_in(2) {
+            space.lines = rng.between(0, 5);
+        } else {
+            space.bytes = rng.between(0, 50);
+        }
+    }
+    let sizes = [
+        table.columns,
+        table.rows,
+        table.cells,
+        table.lines,
+        table.bytes,
+    ];
+    let mut out = row("table", &sizes);
+    out += &row("origin", &[origin]);
+    out += &row("alignments", &table.alignments);
+    out += &row("widths", &table.widths);
+    out += &row("sections", &table.sections);
+    for p in &table.places {
+        out += &row("cell", &[p.row, p.column, p.colspan, p.rowspan, p.lines]);
+    }
+    out += &row("lengths", &table.lengths);
+    out += &format!("text {}\n", hex(&table.text));
+    out += &row("space", &[space.lines, space.bytes]);
+    match redraw::redraw(table, origin, space) {
+        Ok(drawn) => {
+            out += &row("drawn", &[drawn.lines, drawn.bytes]);
+            out += &row("drawnlengths", &drawn.lengths);
+            out += &format!("drawntext {}\n", hex(&drawn.text));
+        }
+        Err(refusal) => out += &refused(refusal),
+    }
+    out + "end\n"
+}

@@ -1,0 +1,3 @@
+pub mod CharactersLaws
+pub mod TrimLaws
+pub mod Utf8Laws

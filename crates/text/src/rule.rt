@@ -1,0 +1,2 @@
+// Rule lines, as `is_rule` of layout.rs.
+ghost use mathlib.Core.Path.{_≡_};

@@ -7,8 +7,8 @@ use mathlib.Core.List.{List, [], _∷_, _++_}
 use native.Mathlib.Omega.{arith}
 use native.Mathlib.Numerals.{add-one}
 use lib.Dec.{leb, ltb}
-use lib.ListN.{length, take, drop, getD, List·getD-eq-default}
-use lib.Seq.{drop-cons, take-suc}
+use lib.ListN.{length, take, drop, getD, length-drop, List·getD-eq-default}
+use lib.Seq.{drop-cons, take-suc, take-all, take-length}
 use borrow.Author.Tests.{leb-true, leb-false, ltb-true, ltb-false, lt-ltb, le-ltb, le-leb, lt-leb}
 use Rattle.seq.specs.Lists.{within}
 
@@ -63,3 +63,10 @@ drop-step s i h = rw (add-one, drop-cons s i 0)
 pub take-last : (s : List ℕ) (n : ℕ) → 0 < n → n ≤ length s → take n s ≡ take (n - 1) s ++ getD s (n - 1) 0 ∷ []
 take-last s zero pos h = absurd (omega arith)
 take-last s (suc n) pos h = let e : suc n - 1 ≡ n = omega arith in let below : n < length s = omega arith in rw e (take-suc s n 0 below)
+
+-- `&s[a..]` as the code has it
+pub part-to-end : (s : List ℕ) (a : ℕ) → take (length s - a) (drop a s) ≡ drop a s
+part-to-end s a = take-all (length s - a) (drop a s) (rw length-drop (omega arith))
+
+pub last-apart : (s : List ℕ) → (length s ≡ 0 → ⊥) → s ≡ take (length s - 1) s ++ getD s (length s - 1) 0 ∷ []
+last-apart s some = sym (take-length s) ∙ take-last s (length s) (omega arith) (omega arith)

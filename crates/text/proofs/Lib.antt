@@ -1,3 +1,4 @@
 pub mod CharactersLaws
+pub mod RuleLaws
 pub mod TrimLaws
 pub mod Utf8Laws

@@ -57,6 +57,12 @@ within-tests a b x = go (leb a x) refl (leb x b) refl where
 pub read-past : (s : List ℕ) (i : ℕ) → length s ≤ i → 0 ≡ getD s i 0
 read-past s i h = sym (List·getD-eq-default s 0 h)
 
+pub read-some : (s : List ℕ) (i : ℕ) → (getD s i 0 ≡ 0 → ⊥) → i < length s
+read-some s i h = go (ltb i (length s)) refl where
+  go : (t : Bool) → ltb i (length s) ≡ t → i < length s
+  go true e = ltb-true i (length s) e
+  go false e = absurd (h (sym (read-past s i (ltb-false i (length s) e))))
+
 pub drop-step : (s : List ℕ) (i : ℕ) → i < length s → drop i s ≡ getD s i 0 ∷ drop (i + 1) s
 drop-step s i h = rw (add-one, drop-cons s i 0)
 

@@ -2,3 +2,4 @@ pub mod CharactersLaws
 pub mod RuleLaws
 pub mod TrimLaws
 pub mod Utf8Laws
+mod Examples

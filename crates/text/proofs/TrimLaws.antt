@@ -3,11 +3,12 @@
 use Prim.Native.Nat.{ℕ, zero, suc, _-_, _≤_, _<_}
 use mathlib.Core.Path.{_≡_, refl, sym, ap, _∙_}
 use mathlib.Core.Bool.{Bool, true, false, not, cond}
-use mathlib.Core.List.{List, [], _∷_, _++_}
+use mathlib.Core.List.{List, [], _∷_, _++_, append-nil, append-assoc}
 use native.Mathlib.Omega.{arith}
 use lib.ListN.{length, take, getD}
 use borrow.Author.Tests.{not-true, not-false}
-use Rattle.seq.proofs.ListsLaws.{take-last}
+use Rattle.seq.specs.Lists.{all}
+use Rattle.seq.proofs.ListsLaws.{both-true, take-last}
 use Rattle.text.specs.Trim.{blank, beforeTrimmed, trimEnd}
 
 -- ---- at the last byte
@@ -21,6 +22,13 @@ unfolding trimEnd
 trim-kept [] b h = rw h
 trim-kept (a ∷ []) b h = rw h
 trim-kept (a ∷ c ∷ s) b h = ap (beforeTrimmed a) (trim-kept (c ∷ s) b h)
+
+pub trim-blanks : (s t : List ℕ) → all blank t ≡ true → trimEnd (s ++ t) ≡ trimEnd s
+unfolding all
+trim-blanks s [] h = rw append-nil
+trim-blanks s (b ∷ t) h =
+    let (here, later) = both-true (blank b) (all blank t) h in
+    ap trimEnd (sym (append-assoc s (b ∷ []) t)) ∙ trim-blanks (s ++ b ∷ []) t later ∙ trim-blank s b here
 
 -- A scan from the end, with all from n on found blank: it stops at a byte that is not, goes on, or has come to the start
 module _ (s : List ℕ) (n : ℕ) (scanned : trimEnd s ≡ trimEnd (take n s)) where

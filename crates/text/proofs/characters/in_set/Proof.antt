@@ -1,3 +1,5 @@
+-- `text::characters::in_set` meets its contract: the width decides, unless it is a tab.
+-- Assumes nothing.
 use Rattle.text.specs.Characters.{inSet}
 use borrow.Author.Needs.{needs}
 use Rattle.text.proofs.characters.in_set.Statement.{statement}

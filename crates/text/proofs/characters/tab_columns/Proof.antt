@@ -1,3 +1,5 @@
+-- `text::characters::tab_columns` meets its contract: the code is the definition.
+-- Assumes nothing.
 use Rattle.text.specs.Characters.{tabColumns}
 use mathlib.Core.Path.{refl}
 use borrow.Author.Needs.{needs}

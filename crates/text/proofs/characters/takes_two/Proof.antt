@@ -1,3 +1,5 @@
+-- `text::characters::takes_two` meets its contract: each range is its own call.
+-- Assumes nothing.
 use borrow.Author.Needs.{needs}
 use Rattle.text.proofs.characters.takes_two.Statement.{statement}
 use Rattle.text.proofs.characters.takes_two.Tie as tie

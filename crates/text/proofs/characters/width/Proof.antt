@@ -1,3 +1,5 @@
+-- `text::characters::width` meets its contract: the tests come in the order of the table's rows.
+-- Assumes nothing.
 use mathlib.Core.Path.{sym}
 use Rattle.text.proofs.CharactersLaws.{width-one, width-none, width-two, width-outside}
 use borrow.Author.Needs.{needs}

@@ -1,3 +1,5 @@
+-- `text::characters::within` meets its contract: the test of the definition, made the other way round.
+-- Assumes nothing.
 use borrow.Author.Needs.{needs}
 use Rattle.seq.proofs.ListsLaws.{within-tests}
 use Rattle.text.proofs.characters.within.Statement.{statement}

@@ -1,3 +1,5 @@
+-- `text::rule::is_filled` meets its contract: the invariant: the segment is filled where the bytes from i on are.
+-- Assumes nothing.
 use Prim.Native.Nat.{_-_, _≤_}
 use mathlib.Core.Path.{_≡_}
 use borrow.Author.Needs.{needs}

@@ -1,3 +1,5 @@
+-- `text::rule::is_rule` meets its contract: the invariant: the line is a rule where what is left is closed segments.
+-- Assumes nothing.
 use Prim.Native.Nat.{_≤_}
 use mathlib.Core.Path.{_≡_}
 use borrow.Author.Needs.{needs}

@@ -1,3 +1,5 @@
+-- `text::rule::is_segment` meets its contract: from its three calls.
+-- Assumes nothing.
 use Rattle.text.specs.Rule.{isSegment}
 use borrow.Author.Needs.{needs}
 use Rattle.text.proofs.rule.is_segment.Statement.{statement}

@@ -1,3 +1,5 @@
+-- `text::rule::segment_end` meets its contract: the invariant: no `+` was passed, so what is left to count starts at i.
+-- Assumes nothing.
 use Prim.Native.Nat.{_+_, _-_, _≤_}
 use mathlib.Core.Path.{_≡_}
 use borrow.Author.Needs.{needs}

@@ -1,3 +1,5 @@
+-- `text::rule::strip_leading_colon` meets its contract: by the first byte.
+-- Assumes nothing.
 use Rattle.text.proofs.RuleLaws.{empty-no-leading-colon, leading-colon, no-leading-colon}
 use borrow.Author.Needs.{needs}
 use Rattle.text.proofs.rule.strip_leading_colon.Statement.{statement}

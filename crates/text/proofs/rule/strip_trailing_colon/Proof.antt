@@ -1,3 +1,5 @@
+-- `text::rule::strip_trailing_colon` meets its contract: by the last byte.
+-- Assumes nothing.
 use native.Mathlib.Nat.{sub-le}
 use lib.Seq.{length-take-le}
 use Rattle.text.proofs.RuleLaws.{empty-no-trailing-colon, no-trailing-colon, trailing-colon}

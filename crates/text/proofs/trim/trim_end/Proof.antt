@@ -1,3 +1,5 @@
+-- `text::trim::trim_end` meets its contract: the invariant: trimming the first n bytes gives what trimming all gives.
+-- Assumes nothing.
 use Prim.Native.Nat.{_≤_}
 use mathlib.Core.Path.{_≡_}
 use borrow.Author.Needs.{needs}

@@ -1,3 +1,5 @@
+-- `text::utf8::byte_or_zero` meets its contract: past the end a list reads as 0.
+-- Assumes nothing.
 use Rattle.seq.proofs.ListsLaws.{read-past}
 use borrow.Author.Needs.{needs}
 use Rattle.text.proofs.utf8.byte_or_zero.Statement.{statement}

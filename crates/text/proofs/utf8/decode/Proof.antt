@@ -1,3 +1,5 @@
+-- `text::utf8::decode` meets its contract: a place at or past the end has no character; elsewhere the next three bytes decide.
+-- Assumes nothing.
 use Rattle.text.proofs.Utf8Laws.{character-past, character-at}
 use borrow.Author.Needs.{needs}
 use Rattle.text.proofs.utf8.decode.Statement.{statement}

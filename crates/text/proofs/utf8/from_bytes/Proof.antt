@@ -1,3 +1,5 @@
+-- `text::utf8::from_bytes` meets its contract: the first byte's range picks the size.
+-- Assumes nothing.
 use Rattle.seq.proofs.ListsLaws.{within-low}
 use Rattle.text.proofs.Utf8Laws.{decoded-one, decoded-two, decoded-three, decoded-refused}
 use borrow.Author.Needs.{needs}

@@ -1,3 +1,5 @@
+-- `text::utf8::from_three` meets its contract: bytes that go on are at least 80, so the differences fit.
+-- Assumes nothing.
 use Rattle.text.proofs.Utf8Laws.{second-low, third-low, from-three-refused, from-three-is}
 use borrow.Author.Needs.{needs}
 use Rattle.text.proofs.utf8.from_three.Statement.{statement}

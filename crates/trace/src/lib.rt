@@ -1,6 +1,6 @@
 // The first bordered rectangle at a corner, and tracing (layout.rs: find_rect, trace).
 pub mod search;
-pub mod skyline;
+pub mod sky;
 pub mod tracing;
 
 // The first bordered rectangle at a corner, by its bottom line and right column.

@@ -29,6 +29,12 @@ pub record First (g : Grid) (r : Rect) : Type 0 where
   pub least : (q : Rect) → Bordered g q → q .top ≡ r .top → q .left ≡ r .left
       → (r .bottom < q .bottom) ⊎ ((r .bottom ≡ q .bottom) × (r .right ≤ q .right))
 
+-- the other order: the smallest right, and of those with that right the smallest bottom
+pub record FirstByRight (g : Grid) (r : Rect) : Type 0 where
+  pub bordered : Bordered g r
+  pub least : (q : Rect) → Bordered g q → q .top ≡ r .top → q .left ≡ r .left
+      → (r .right < q .right) ⊎ ((r .right ≡ q .right) × (r .bottom ≤ q .bottom))
+
 -- does the rectangle hold the unit square whose upper left corner is line y, column x
 abbrev pub holds : ℕ → ℕ → Rect → Bool
 holds y x r = leb (r .top) y && ltb y (r .bottom) && leb (r .left) x && ltb x (r .right)

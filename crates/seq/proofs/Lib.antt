@@ -1,0 +1,5 @@
+pub mod Tests
+pub mod Ranges
+pub mod Searches
+pub mod Smallest
+pub mod Permutations

@@ -1,5 +1,6 @@
 pub mod Tests
 pub mod Ranges
 pub mod Searches
+pub mod Positions
 pub mod Smallest
 pub mod Permutations

@@ -1,18 +1,13 @@
--- Laws of the smallest of a list, and of the elements that a list has at its positions.
+-- Laws of the smallest of a list.
 -- Assumes nothing.
-use Prim.Native.Nat.{ℕ, zero, suc, _≤_, _<_, min}
+use Prim.Native.Nat.{ℕ, _≤_, _<_, min}
 use mathlib.Core.Path.{_≡_, refl}
 use mathlib.Core.Logic.{_⊎_, ⊎-elim}
 use mathlib.Core.List.{List, [], _∷_, List·Memᴰ, List·Memᴰ·head, List·Memᴰ·tail, Memᴰ·cast}
 use native.Mathlib.Omega.{arith}
-use lib.ListN.{length, getD}
+use lib.ListN.{length}
 use Rattle.seq.specs.Lists.{smallest}
 use Rattle.seq.proofs.Tests.{le-or-lt}
-
-pub getD-mem : {A : Type 0} (l : List A) (i : ℕ) (d : A) → i < length l → List·Memᴰ (getD l i d) l
-getD-mem [] i d h = absurd (omega arith)
-getD-mem (a ∷ l) zero d h = List·Memᴰ·head refl
-getD-mem (a ∷ l) (suc i) d h = List·Memᴰ·tail (getD-mem l i d (omega arith))
 
 pub smallest-le : (l : List ℕ) {n : ℕ} → List·Memᴰ n l → smallest l ≤ n
 unfolding smallest

@@ -39,6 +39,10 @@ tests-agree true u f g = sym (f refl)
 tests-agree false true f g = g refl
 tests-agree false false f g = refl
 
+pub refused : (t : Bool) → (t ≡ true → ⊥) → t ≡ false
+refused true not-passed = absurd (not-passed refl)
+refused false not-passed = refl
+
 pub le-or-lt : (a b : ℕ) → (a ≤ b) ⊎ (b < a)
 le-or-lt a b = go (leb a b) refl where
   go : (t : Bool) → leb a b ≡ t → (a ≤ b) ⊎ (b < a)
@@ -53,9 +57,8 @@ bit false = 0
 pub bit-true : {t : Bool} → t ≡ true → bit t ≡ 1
 bit-true e = rw e
 
-pub bit-false : (t : Bool) → (t ≡ true → ⊥) → bit t ≡ 0
-bit-false true no-way = absurd (no-way refl)
-bit-false false no-way = refl
+pub bit-false : {t : Bool} → t ≡ false → bit t ≡ 0
+bit-false e = rw e
 
 pub bit-le : (t : Bool) → bit t ≤ 1
 bit-le true = omega arith

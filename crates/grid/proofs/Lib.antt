@@ -1,3 +1,6 @@
 pub mod Examples
 pub mod RectangleLaws
 pub mod SkylineLaws
+pub mod TraceLaws
+pub mod CoverLaws
+pub mod CoverTheorems

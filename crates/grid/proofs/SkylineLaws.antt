@@ -20,7 +20,7 @@ use Rattle.grid.specs.Values.{Rect}
 use Rattle.grid.specs.Slots.{Grid}
 use Rattle.grid.specs.Rectangle.{firstRect}
 use Rattle.grid.specs.Trace.{lowest, leftmost, standsLevel, raise, keepLevel, nextRect}
-use Rattle.grid.specs.Cover.{First, holds, Next}
+use Rattle.grid.specs.Cover.{Bordered, holds, ground, Next}
 use Rattle.grid.proofs.RectangleLaws.{found-first, first-found}
 
 -- ---- the leftmost lowest column
@@ -175,3 +175,19 @@ module _ {g : Grid} {sky : List ℕ} where
       range-all (λ x. eqb (getD sky x 0) (r .top)) (r .left) (r .right - r .left)
       (λ x low high. eq-eqb (getD sky x 0) (r .top) (next .level x low (omega (arith, next .first .bordered .leftBeforeRight)))) in
       rw (← next .atLowest, ← next .atLeftmost, first-found (next .first), level)
+
+-- ---- a skyline of the grid: one bottom line for each unit column, and there is one
+
+pub record Fits (g : Grid) (sky : List ℕ) : Type 0 where
+  pub wide : 1 < g .width
+  pub columns : length sky ≡ g .width - 1
+
+pub fits-ground : (g : Grid) → 1 < g .width → Fits g (ground g)
+fits-ground g wide = record { wide = wide; columns = length-replicate (g .width - 1) 0 }
+
+module _ {g : Grid} {sky : List ℕ} (fits : Fits g sky) where
+  pub fits-corner : Corner sky
+  fits-corner = corner sky (omega arith)
+
+  pub fits-raise : {r : Rect} → Bordered g r → Fits g (raise r sky)
+  fits-raise {r} h = record { wide = fits .wide; columns = raise-length r sky (h .leftBeforeRight) (omega (arith, h .rightInside)) ∙ fits .columns }

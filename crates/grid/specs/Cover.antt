@@ -5,7 +5,7 @@ use mathlib.Core.List.{List, [], _∷_, List·Memᴰ}
 use mathlib.Core.Logic.{_⊎_}
 use Prim.Native.Nat.{ℕ, suc, _-_, _≤_, _<_}
 use lib.Dec.{eqb, leb, ltb}
-use lib.ListN.{getD, replicate}
+use lib.ListN.{length, getD, replicate}
 use Rattle.seq.specs.Lists.{count}
 use Rattle.grid.specs.Values.{Rect}
 use Rattle.grid.specs.Slots.{Grid, Plus, glyphAt, horizontal, vertical}
@@ -72,3 +72,17 @@ pub record Next (g : Grid) (sky : List ℕ) (r : Rect) : Type 0 where
 abbrev pub Placed : Grid → List ℕ → List Rect → Type 0
 Placed g sky [] = Unit {0}
 Placed g sky (r ∷ rs) = Next g sky r × Placed g (raise r sky) rs
+
+-- tracing with room for so many rectangles comes to a corner where there is none to place
+pub record Stuck (g : Grid) (room : ℕ) (sky : List ℕ) : Type 0 where
+  pub rectangles : List Rect
+  pub each : Placed g sky rectangles
+  pub fewEnough : length rectangles ≤ room
+  pub notDown : lowest (risen sky rectangles) < g .height - 1
+  pub noneNext : (r : Rect) → Next g (risen sky rectangles) r → ⊥
+
+-- tracing with room for so many rectangles places them all, and finds one more to place
+pub record Overfull (g : Grid) (room : ℕ) (sky : List ℕ) : Type 0 where
+  pub rectangles : List Rect
+  pub each : Placed g sky rectangles
+  pub oneMore : length rectangles ≡ suc room

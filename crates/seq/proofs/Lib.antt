@@ -4,3 +4,4 @@ pub mod Searches
 pub mod Positions
 pub mod Smallest
 pub mod Permutations
+pub mod Sorted

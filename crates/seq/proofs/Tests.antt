@@ -3,10 +3,10 @@
 use Prim.Native.Nat.{ℕ, _≤_, _<_}
 use mathlib.Core.Path.{_≡_, refl, sym, _∙_}
 use mathlib.Core.Bool.{Bool, true, false, _&&_, _||_}
-use mathlib.Core.Logic.{_⊎_, inl, inr}
+use mathlib.Core.Logic.{_⊎_, inl, inr, ⊎-elim}
 use native.Mathlib.Omega.{arith}
-use lib.Dec.{leb, ltb}
-use borrow.Author.Tests.{leb-true, leb-false}
+use lib.Dec.{eqb, leb, ltb}
+use borrow.Author.Tests.{leb-true, leb-false, ltb-true, eqb-true, lt-ltb, eq-eqb}
 
 pub true-not-false : true ≡ false → ⊥
 true-not-false e = let z : _≡_ {A = ℕ} 0 1 = cc in omega arith
@@ -67,3 +67,17 @@ bit-le false = omega arith
 pub bit-one : (t : Bool) → 0 < bit t → t ≡ true
 bit-one true h = refl
 bit-one false h = absurd (omega arith)
+
+-- ---- the order of two pairs of numbers by the first, then the second
+module _ (a b c d : ℕ) where
+  pub lex-above : a < b → ltb a b || (eqb a b && ltb c d) ≡ true
+  lex-above h = or-left (eqb a b && ltb c d) (lt-ltb a b h)
+
+  pub lex-beside : a ≡ b → c < d → ltb a b || (eqb a b && ltb c d) ≡ true
+  lex-beside e h = or-right (ltb a b) (and-intro (eq-eqb a b e) (lt-ltb c d h))
+
+  pub lex-cases : ltb a b || (eqb a b && ltb c d) ≡ true → (a < b) ⊎ ((a ≡ b) × (c < d))
+  lex-cases e =
+      ⊎-elim (λ (h : ltb a b ≡ true). inl (ltb-true a b h))
+      (λ (h : eqb a b && ltb c d ≡ true). inr (eqb-true a b (and-left (eqb a b) (ltb c d) h), ltb-true c d (and-right (eqb a b) (ltb c d) h)))
+      (or-cases (ltb a b) (eqb a b && ltb c d) e)

@@ -10,15 +10,16 @@ use lib.Dec.{leb}
 use lib.ListN.{length, getD-replicate}
 use borrow.Author.Tests.{lt-leb, le-ltb, le-leb}
 use Rattle.seq.specs.Lists.{neighbours}
-use Rattle.seq.proofs.Tests.{le-or-lt, or-left, or-right, bit-false}
-use Rattle.seq.proofs.Permutations.{perm-without, perm-length, without}
+use Rattle.seq.proofs.Tests.{refused, le-or-lt, or-left, or-right, bit-false, lex-cases, lex-trans}
+use Rattle.seq.proofs.Sorted.{Strict, sorted-same}
+use Rattle.seq.proofs.Permutations.{without, perm-without, perm-length, perm-mem}
 use Rattle.grid.specs.Limits.{maxCells}
 use Rattle.grid.specs.Values.{Rect}
 use Rattle.grid.specs.Slots.{Grid}
 use Rattle.grid.specs.Trace.{covered, stopped, placed, raise, allDown, traceFrom, trace}
 use Rattle.grid.specs.Cover.{Cover, ground, risen, Next, Placed, Stuck, Overfull, precedes}
 use Rattle.grid.proofs.SkylineLaws.{found-next, Fits, fits-ground, fits-raise}
-use Rattle.grid.proofs.TraceLaws.{trace-done, trace-full, trace-next, Covering, covering, stops, overfull-stops, placed-ordered}
+use Rattle.grid.proofs.TraceLaws.{trace-done, trace-full, trace-next, Covering, covering, stops, stuck-stops, overfull-stops, placed-ordered}
 use Rattle.grid.proofs.CoverLaws.{under, CoverFrom, cover-before, cover-nothing, nothing-left, key, cover-after}
 
 -- ---- a drawing of at least two lines and two columns
@@ -137,6 +138,28 @@ cover-traced g cs cover few =
     let found = cover-traces g maxCells (ground g) cs (fits-ground g (cover .wide)) (from-cover cover) few in
     (found .0, traced-sized g s ∙ found .1, found .2)
 
+precedes-strict : Strict precedes
+precedes-strict =
+    record {
+      irreflexive = λ a.
+          refused (precedes a a)
+          (λ e. ⊎-elim (λ (h : a .top < a .top). omega arith) (λ (h : (a .top ≡ a .top) × (a .left < a .left)). omega arith)
+          (lex-cases (a .top) (a .top) (a .left) (a .left) e));
+      transitive = λ a b c e f. lex-trans (a .top) (b .top) (c .top) (a .left) (b .left) (c .left) e f;
+    }
+
+-- So tracing gives a list of rectangles exactly where it is a cover of at most 1,024, in order of top, then left.
+pub traced-exactly : (g : Grid) (rs : List Rect) → (trace g ≡ covered rs) ↔ (Cover g rs × (length rs ≤ 1024) × (neighbours precedes rs ≡ true))
+traced-exactly g rs = (traced-covers g rs, back) where
+  back : Cover g rs × (length rs ≤ 1024) × (neighbours precedes rs ≡ true) → trace g ≡ covered rs
+  back h =
+      let found = cover-traced g rs (h .0) (h .1) in
+      let qs = found .0 in
+      found .1
+      ∙ ap covered
+      (sorted-same precedes precedes-strict qs rs (traced-covers g qs (found .1) .2) (h .2) (λ x m. perm-mem (found .2) m)
+      (λ x m. perm-mem (Permᴰ·symm (found .2)) m))
+
 -- Two covers of one grid are the same up to order.
 pub cover-unique : (g : Grid) (bs cs : List Rect) → Cover g bs → Cover g cs → List·Permᴰ bs cs
 cover-unique g bs cs hb hc =
@@ -168,6 +191,24 @@ stopped-six-or-seven g number e = ⊎-elim good (λ (small : trace g ≡ stopped
   good s =
       ⊎-elim (λ (h : (number ≡ 6) × Stuck g maxCells (ground g)). inl (h .0)) (λ (h : (number ≡ 7) × Overfull g maxCells (ground g)). inr (h .0))
       (stops g maxCells (ground g) number (sym (traced-sized g s) ∙ e))
+
+-- In a drawing of two lines and two columns at least, tracing stops with 6 exactly where, after at most 1,024 rectangles placed, the leftmost lowest column is above the last line and has none to place: no first bordered one, or one that is not level.
+pub stopped-six : (g : Grid) → 1 < g .height → 1 < g .width → (trace g ≡ stopped 6) ↔ Stuck g 1024 (ground g)
+stopped-six g tall wide = (there, back) where
+  s : Sized g
+  s = record { tall = tall; wide = wide }
+
+  there : trace g ≡ stopped 6 → Stuck g 1024 (ground g)
+  there e =
+      ⊎-elim (λ (h : (6 ≡ 6) × Stuck g maxCells (ground g)). h .1) (λ (h : (6 ≡ 7) × Overfull g maxCells (ground g)). absurd (omega arith))
+      (stops g maxCells (ground g) 6 (sym (traced-sized g s) ∙ e))
+
+  back : Stuck g 1024 (ground g) → trace g ≡ stopped 6
+  back h = traced-sized g s ∙ stuck-stops g maxCells (ground g) (h .rectangles) (h .each) (h .fewEnough) (h .notDown) (h .noneNext)
+
+-- A single line, or a drawing one column wide, is refused with 6.
+pub small-stopped : (g : Grid) → (g .height ≤ 1) ⊎ (g .width ≤ 1) → trace g ≡ stopped 6
+small-stopped g small = ⊎-elim (λ (s : Sized g). absurd (⊎-elim (λ (h : g .height ≤ 1). omega arith) (λ (h : g .width ≤ 1). omega arith) small)) (λ e. e) (sized g)
 
 -- Tracing stops with 7 exactly where 1,024 rectangles are placed, each the first bordered one at the leftmost lowest column and level
 -- there, and then a 1,025th is found that is such a one too.

@@ -146,6 +146,19 @@ next-not-down {g} {sky} {r} next =
     lt-leb (g .height - 1) (lowest sky)
     (omega (arith, next .atLowest, next .first .bordered .topAboveBottom, next .first .bordered .bottomInside))
 
+-- rectangles placed, and then none to place: tracing stops with 6
+pub stuck-stops : (g : Grid) (room : ℕ) (sky : List ℕ) (rs : List Rect) → Placed g sky rs → length rs ≤ room → lowest (risen sky rs) < g .height - 1
+    → ((r : Rect) → Next g (risen sky rs) r → ⊥) → traceFrom g room sky ≡ stopped 6
+unfolding risen
+stuck-stops g room sky [] each few higher none-next = trace-stuck g sky room (lt-leb (g .height - 1) (lowest sky) higher) (nothing (nextRect g sky) refl) where
+  nothing : (o : Option Rect) → nextRect g sky ≡ o → nextRect g sky ≡ none
+  nothing none e = e
+  nothing (some r) e = absurd (none-next r (next-found e))
+stuck-stops g zero sky (r ∷ rs) each few higher none-next = absurd (omega arith)
+stuck-stops g (suc room) sky (r ∷ rs) each few higher none-next =
+    trace-next g sky room r (next-not-down (each .0)) (found-next (each .0))
+    ∙ ap (placed r) (stuck-stops g room (raise r sky) rs (each .1) (omega arith) higher none-next)
+
 -- room rectangles placed and one more to place: tracing stops with 7
 pub overfull-stops : (g : Grid) (room : ℕ) (sky : List ℕ) (rs : List Rect) → Placed g sky rs → length rs ≡ suc room → traceFrom g room sky ≡ stopped 7
 overfull-stops g room sky [] each more = absurd (omega arith)

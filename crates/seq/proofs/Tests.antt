@@ -81,3 +81,11 @@ module _ (a b c d : ℕ) where
       ⊎-elim (λ (h : ltb a b ≡ true). inl (ltb-true a b h))
       (λ (h : eqb a b && ltb c d ≡ true). inr (eqb-true a b (and-left (eqb a b) (ltb c d) h), ltb-true c d (and-right (eqb a b) (ltb c d) h)))
       (or-cases (ltb a b) (eqb a b && ltb c d) e)
+
+pub lex-trans : (a b c x y z : ℕ) → ltb a b || (eqb a b && ltb x y) ≡ true → ltb b c || (eqb b c && ltb y z) ≡ true → ltb a c || (eqb a c && ltb x z) ≡ true
+lex-trans a b c x y z e f = go (lex-cases a b x y e) (lex-cases b c y z f) where
+  go : (a < b) ⊎ ((a ≡ b) × (x < y)) → (b < c) ⊎ ((b ≡ c) × (y < z)) → ltb a c || (eqb a c && ltb x z) ≡ true
+  go (inl h) (inl k) = lex-above a c x z (omega arith)
+  go (inl h) (inr k) = lex-above a c x z (omega arith)
+  go (inr h) (inl k) = lex-above a c x z (omega arith)
+  go (inr h) (inr k) = lex-beside a c x z (omega arith) (omega arith)

@@ -4,3 +4,4 @@ pub mod SkylineLaws
 pub mod TraceLaws
 pub mod CoverLaws
 pub mod CoverTheorems
+pub mod LayoutLaws

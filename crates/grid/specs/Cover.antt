@@ -7,7 +7,7 @@ use Prim.Native.Nat.{ℕ, suc, _-_, _≤_, _<_}
 use lib.Dec.{eqb, leb, ltb}
 use lib.ListN.{length, getD, replicate}
 use Rattle.seq.specs.Lists.{count}
-use Rattle.grid.specs.Values.{Rect}
+use Rattle.grid.specs.Values.{Rect, Cell}
 use Rattle.grid.specs.Slots.{Grid, Plus, glyphAt, horizontal, vertical}
 use Rattle.grid.specs.Trace.{lowest, leftmost, raise}
 
@@ -51,6 +51,10 @@ pub record Cover (g : Grid) (rs : List Rect) : Type 0 where
 -- in order of top, then left
 abbrev pub precedes : Rect → Rect → Bool
 precedes a b = ltb (a .top) (b .top) || (eqb (a .top) (b .top) && ltb (a .left) (b .left))
+
+-- cells of a layout in order of row, then column
+abbrev pub cellPrecedes : Cell → Cell → Bool
+cellPrecedes a b = ltb (a .row) (b .row) || (eqb (a .row) (b .row) && ltb (a .column) (b .column))
 
 -- the skyline before any rectangle is placed
 abbrev pub ground : Grid → List ℕ

@@ -5,3 +5,4 @@ pub mod Positions
 pub mod Smallest
 pub mod Permutations
 pub mod Sorted
+pub mod Rising

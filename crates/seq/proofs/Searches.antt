@@ -9,8 +9,8 @@ use mathlib.Core.List.{List, [], _∷_, map, List·Memᴰ, List·Memᴰ·head, L
 use native.Mathlib.Omega.{arith}
 use native.Mathlib.Nat.{eq-or-lt-of-le}
 use lib.ListN.{length, getD}
-use Rattle.seq.specs.Lists.{range, all, any, select, consIf, count, orNext, firstSome, firstAt, someIf}
-use Rattle.seq.proofs.Tests.{true-not-false, and-left, and-right, and-intro, or-cases, or-left, or-right, bit, bit-true}
+use Rattle.seq.specs.Lists.{range, all, any, select, consIf, count, orNext, firstSome, firstAt, someIf, neighbours}
+use Rattle.seq.proofs.Tests.{true-not-false, and-left, and-right, and-intro, or-cases, or-left, or-right, refused, bit, bit-true, bit-false}
 use Rattle.seq.proofs.Ranges.{mem-range, range-mem}
 
 module _ {A : Type 0} (test : A → Bool) where
@@ -48,6 +48,14 @@ module _ {A : Type 0} (test : A → Bool) where
     go true e (List·Memᴰ·tail n) later = let below = later n in (List·Memᴰ·tail (below .0), below .1)
     go false e n later = let below = later n in (List·Memᴰ·tail (below .0), below .1)
 
+  pub mem-select : {l : List A} {a : A} → List·Memᴰ a l → test a ≡ true → List·Memᴰ a (select test l)
+  unfolding select
+  mem-select (List·Memᴰ·head {x} {xs} q) e = let f : test x ≡ true = rw q at e in rw f (List·Memᴰ·head q)
+  mem-select {a = a} (List·Memᴰ·tail {x} {xs} m) e = go (test x) (mem-select m e) where
+    go : (t : Bool) → List·Memᴰ a (select test xs) → List·Memᴰ a (consIf t x (select test xs))
+    go true later = List·Memᴰ·tail later
+    go false later = later
+
   pub count-cons : (a : A) (l : List A) → count test (a ∷ l) ≡ bit (test a) + count test l
   unfolding select
   count-cons a l = go (test a) where
@@ -70,6 +78,12 @@ module _ {A : Type 0} (test : A → Bool) where
         let found = later (omega (arith, count-cons b l)) in
         (found .0, List·Memᴰ·tail (found .1), found .2)
 
+  pub count-none : (l : List A) → ((a : A) → List·Memᴰ a l → test a ≡ true → ⊥) → count test l ≡ 0
+  unfolding select
+  count-none [] h = refl
+  count-none (b ∷ l) h =
+      omega (arith, count-cons b l, bit-false (refused (test b) (h b (List·Memᴰ·head refl))), count-none l (λ a m. h a (List·Memᴰ·tail m)))
+
   -- where exactly one passes, any two that pass are the same
   pub count-one : {l : List A} → count test l ≡ 1 → {a b : A} → List·Memᴰ a l → List·Memᴰ b l → test a ≡ true → test b ≡ true → a ≡ b
   count-one one (List·Memᴰ·head q) (List·Memᴰ·head r) e f = q ∙ sym r
@@ -78,6 +92,36 @@ module _ {A : Type 0} (test : A → Bool) where
   count-one one (List·Memᴰ·tail {x} {xs} m) (List·Memᴰ·head r) e f =
       absurd (let g : test x ≡ true = rw r at f in omega (arith, count-cons x xs, bit-true g, count-mem m e))
   count-one one (List·Memᴰ·tail {x} {xs} m) (List·Memᴰ·tail n) e f = count-one (omega (arith, count-cons x xs, count-mem m e)) m n e f
+
+-- tests that give the same on a list count the same
+pub count-agree : {A : Type 0} (test other : A → Bool) (l : List A) → ((a : A) → List·Memᴰ a l → test a ≡ other a) → count test l ≡ count other l
+unfolding select
+count-agree test other [] h = refl
+count-agree test other (b ∷ l) h =
+    omega (arith, count-cons test b l, count-cons other b l, count-agree test other l (λ a m. h a (List·Memᴰ·tail m)), ap bit (h b (List·Memᴰ·head refl)))
+
+-- ---- through a function
+module _ {A B : Type 0} (f : A → B) where
+  pub count-map : (test : B → Bool) (l : List A) → count test (map f l) ≡ count (λ a. test (f a)) l
+  unfolding select
+  count-map test [] = refl
+  count-map test (a ∷ l) = omega (arith, count-cons test (f a) (map f l), count-cons (λ a. test (f a)) a l, count-map test l)
+
+  pub neighbours-map : (before : B → B → Bool) (l : List A) → neighbours before (map f l) ≡ neighbours (λ a b. before (f a) (f b)) l
+  unfolding neighbours
+  neighbours-map before [] = refl
+  neighbours-map before (a ∷ []) = refl
+  neighbours-map before (a ∷ b ∷ l) = ap (λ t. before (f a) (f b) && t) (neighbours-map before (b ∷ l))
+
+-- a test of neighbours that implies another
+pub neighbours-imply : {A : Type 0} (before after : A → A → Bool) (l : List A)
+    → ((a b : A) → List·Memᴰ a l → List·Memᴰ b l → before a b ≡ true → after a b ≡ true) → neighbours before l ≡ true → neighbours after l ≡ true
+unfolding neighbours
+neighbours-imply before after [] h e = refl
+neighbours-imply before after (a ∷ []) h e = refl
+neighbours-imply before after (a ∷ b ∷ l) h e =
+    and-intro (h a b (List·Memᴰ·head refl) (List·Memᴰ·tail (List·Memᴰ·head refl)) (and-left (before a b) (neighbours before (b ∷ l)) e))
+    (neighbours-imply before after (b ∷ l) (λ x y m n. h x y (List·Memᴰ·tail m) (List·Memᴰ·tail n)) (and-right (before a b) (neighbours before (b ∷ l)) e))
 
 module _ (test : ℕ → Bool) (from count : ℕ) where
   pub all-range : all test (range from count) ≡ true → (x : ℕ) → from ≤ x → x < from + count → test x ≡ true

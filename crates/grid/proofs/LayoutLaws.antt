@@ -109,7 +109,7 @@ module _ {g : Grid} {rs : List Rect} (cover : Cover g rs) where
         (⊎-elim (λ (e : y ≡ r .top). omega (arith, h .topAboveBottom, h .bottomInside)) (λ (e : y ≡ r .bottom). omega (arith, h .bottomInside)) (edge .2))
 
   -- the rectangle that holds a square
-  holder : (y x : ℕ) → suc y < g .height → suc x < g .width → (r : Rect) × List·Memᴰ r rs × Inside y x r
+  pub holder : (y x : ℕ) → suc y < g .height → suc x < g .width → (r : Rect) × List·Memᴰ r rs × Inside y x r
   holder y x hy hx =
       let held = count-pick (holds y x) rs (omega (arith, cover .once y x hy hx)) in
       (held .0, held .1, inside-holds y x (held .0) (held .2))

@@ -5,3 +5,5 @@ pub mod TraceLaws
 pub mod CoverLaws
 pub mod CoverTheorems
 pub mod LayoutLaws
+pub mod ReadLaws
+pub mod SeparatorLaws

@@ -15,7 +15,7 @@ use Rattle.grid.specs.Slots.{Grid, Glyph, Plus, Dash, Pipe, Other, glyph
 use Rattle.grid.specs.Rectangle.{plusAt, across, down, bordered, firstRect}
 use Rattle.grid.specs.Cover.{Bordered, First, FirstByRight}
 
-abbrev rect : ℕ → ℕ → ℕ → ℕ → Rect
+abbrev pub rect : ℕ → ℕ → ℕ → ℕ → Rect
 rect t l b r = record { top = t; left = l; bottom = b; right = r }
 
 plus-is : (k : Glyph) → isPlus k ≡ true → k ≡ Plus

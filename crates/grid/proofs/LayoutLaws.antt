@@ -11,7 +11,7 @@ use lib.Dec.{eqb, ltb}
 use lib.ListN.{length, getD, length-map}
 use borrow.Author.Tests.{eqb-true, eq-eqb}
 use Rattle.seq.specs.Lists.{range, upTo, any, select, count, neighbours}
-use Rattle.seq.proofs.Tests.{or-cases, or-left, or-right, le-or-lt, lex-above, lex-beside, lex-cases}
+use Rattle.seq.proofs.Tests.{and-left, and-right, and-intro, or-cases, or-left, or-right, le-or-lt, lex-above, lex-beside, lex-cases}
 use Rattle.seq.proofs.Ranges.{mem-range, range-mem}
 use Rattle.seq.proofs.Searches.{any-mem, mem-any, select-mem, mem-select, count-pick, count-one, neighbours-map, neighbours-imply}
 use Rattle.seq.proofs.Positions.{getD-mem}
@@ -27,6 +27,21 @@ unfolding between
 length-between [] = refl
 length-between (a ∷ []) = refl
 length-between (a ∷ b ∷ l) = omega (arith, length-between (b ∷ l))
+
+pub getD-between : (l : List ℕ) (i : ℕ) (d : Between) → suc i < length l → getD (between l) i d .from ≡ getD l i 0
+unfolding between
+getD-between [] i d h = absurd (omega arith)
+getD-between (a ∷ []) i d h = absurd (omega arith)
+getD-between (a ∷ b ∷ l) zero d h = refl
+getD-between (a ∷ b ∷ l) (suc i) d h = getD-between (b ∷ l) i d (omega arith)
+
+pub between-rises : (l : List ℕ) → neighbours ltb l ≡ true → neighbours (λ (a b : Between). ltb (a .from) (b .from)) (between l) ≡ true
+unfolding between neighbours
+between-rises [] e = refl
+between-rises (a ∷ []) e = refl
+between-rises (a ∷ b ∷ []) e = refl
+between-rises (a ∷ b ∷ c ∷ l) e =
+    and-intro (and-left (ltb a b) (neighbours ltb (b ∷ c ∷ l)) e) (between-rises (b ∷ c ∷ l) (and-right (ltb a b) (neighbours ltb (b ∷ c ∷ l)) e))
 
 -- an edge of a rectangle, of the two that the lines of one direction come from
 abbrev isEdge : (Rect → ℕ) → (Rect → ℕ) → ℕ → Rect → Bool

@@ -7,3 +7,4 @@ pub mod CoverTheorems
 pub mod LayoutLaws
 pub mod ReadLaws
 pub mod SeparatorLaws
+pub mod SectionLaws

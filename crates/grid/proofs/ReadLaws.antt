@@ -8,12 +8,14 @@ use mathlib.Core.List.{List}
 use native.Mathlib.Omega.{arith}
 use lib.Dec.{ltb}
 use Rattle.seq.specs.Lists.{isEmpty}
-use Rattle.grid.specs.Answer.{Answer, accept, refuse, refuseIf, refuseAt}
+use Rattle.grid.specs.Answer.{Answer, accept, refuse, refuseIf, refuseAt, andThen}
 use Rattle.grid.specs.Limits.{maxWidth}
-use Rattle.grid.specs.Values.{Line, Rect}
+use Rattle.grid.specs.Values.{Line, Rect, Table}
 use Rattle.grid.specs.Slots.{gridOf}
 use Rattle.grid.specs.Trace.{Traced, covered, stopped, trace}
-use Rattle.grid.specs.Read.{drawingTooLarge, outsideSet, noRule, wrongWidth, rectangles, readGrid, readRects}
+use Rattle.grid.specs.Layout.{layoutOf}
+use Rattle.grid.specs.Cut.{tableOf}
+use Rattle.grid.specs.Read.{drawingTooLarge, outsideSet, noRule, wrongWidth, rectangles, readGrid, readRects, readLayout, readTable}
 
 module _ {A : Type 0} where
   pub passed-if : (t : Bool) (number : ℕ) (next : Answer A) (a : A) → refuseIf t number next ≡ accept a → (t ≡ false) × (next ≡ accept a)
@@ -63,3 +65,14 @@ passed lines rs e =
       filled = p5 .0;
       traced = traced-rectangles (trace g) rs (p5 .1);
     }
+
+-- a table that is read is made of the rectangles that were traced
+pub table-read : (lines : List Line) (t : Table) → readTable lines ≡ accept t
+    → (rs : List Rect) × (readRects lines ≡ accept rs) × (t ≡ tableOf lines (layoutOf lines (gridOf lines) rs))
+unfolding readTable readLayout
+table-read lines t e = go (readRects lines) refl e where
+  go : (a : Answer (List Rect)) → readRects lines ≡ a
+      → andThen (andThen a (λ rs. accept (layoutOf lines (gridOf lines) rs))) (λ l. accept (tableOf lines l)) ≡ accept t
+      → (rs : List Rect) × (readRects lines ≡ accept rs) × (t ≡ tableOf lines (layoutOf lines (gridOf lines) rs))
+  go (accept rs) f e = (rs, f, cc)
+  go (refuse number place) f e = absurd (let z : _≡_ {A = ℕ} 0 1 = cc in omega arith)

@@ -51,7 +51,7 @@ rule-slots column (c ∷ cs) {s} m =
     (List·Memᴰ·append-cases run m)
 
 -- a line that is horizontal throughout
-abbrev pub Across : Grid → ℕ → Type 0
+abbrev Across : Grid → ℕ → Type 0
 Across g s = (x : ℕ) → x < g .width → horizontal (glyphAt g s x) ≡ true
 
 row-filled : (g : Grid) → wrongWidth g ≡ none → (y : ℕ) → y < length (g .rows) → length (getD (g .rows) y []) ≡ g .width
@@ -72,7 +72,7 @@ separator-inside lines {s} m =
     let chosen = select-mem (isSeparator lines) (upTo (length lines)) m in
     (omega (arith, range-mem 0 (length lines) s (chosen .0)), chosen .1)
 
-pub separator-across : (lines : List Line) → wrongWidth (gridOf lines) ≡ none → {s : ℕ} → List·Memᴰ s (gridOf lines .separators) → Across (gridOf lines) s
+separator-across : (lines : List Line) → wrongWidth (gridOf lines) ≡ none → {s : ℕ} → List·Memᴰ s (gridOf lines .separators) → Across (gridOf lines) s
 unfolding gridOf slotAt lineSlots
 separator-across lines e {s} m x h =
     let inside = separator-inside lines m in
@@ -86,7 +86,7 @@ separator-across lines e {s} m x h =
 -- ---- a line that is horizontal throughout cuts through no first bordered rectangle
 
 -- inside one, its part above that line would be bordered too
-pub none-cut : {g : Grid} {r : Rect} → First g r → {s : ℕ} → Across g s → r .top < s → s < r .bottom → ⊥
+none-cut : {g : Grid} {r : Rect} → First g r → {s : ℕ} → Across g s → r .top < s → s < r .bottom → ⊥
 none-cut {g} {r} first {s} full below above =
     ⊎-elim (λ (h : r .bottom < s). omega arith) (λ (h : (r .bottom ≡ s) × (r .right ≤ r .right)). omega arith)
     (first .least (rect (r .top) (r .left) s (r .right)) part refl refl) where
@@ -112,6 +112,14 @@ none-cut {g} {r} first {s} full below above =
             leftSide = λ y low high. h .leftSide y low (omega arith);
             rightSide = λ y low high. h .rightSide y low (omega arith);
           }
+
+-- no separator cuts through a rectangle
+abbrev pub Uncut : Grid → List Rect → Type 0
+Uncut g rs = (r : Rect) → List·Memᴰ r rs → (s : ℕ) → List·Memᴰ s (g .separators) → r .top < s → s < r .bottom → ⊥
+
+pub read-uncut : (lines : List Line) (rs : List Rect) → Passed lines rs → Uncut (gridOf lines) rs
+read-uncut lines rs checks r m s n below above =
+    none-cut (traced-covers (gridOf lines) rs (checks .traced) .0 .first r m) (separator-across lines (checks .filled) n) below above
 
 across-line : {g : Grid} {rs : List Rect} → Cover g rs → (s : ℕ) → s < g .height → Across g s → List·Memᴰ s (rowLines g rs)
 across-line {g} {rs} cover s inside full = ⊎-elim last higher (le-or-lt (g .height - 1) s) where

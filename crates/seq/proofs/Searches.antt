@@ -102,6 +102,16 @@ count-agree test other (b ∷ l) h =
 
 -- ---- through a function
 module _ {A B : Type 0} (f : A → B) where
+  pub all-map : (test : B → Bool) (l : List A) → all test (map f l) ≡ all (λ a. test (f a)) l
+  unfolding all
+  all-map test [] = refl
+  all-map test (a ∷ l) = ap (λ t. test (f a) && t) (all-map test l)
+
+  pub any-map : (test : B → Bool) (l : List A) → any test (map f l) ≡ any (λ a. test (f a)) l
+  unfolding any
+  any-map test [] = refl
+  any-map test (a ∷ l) = ap (λ t. test (f a) || t) (any-map test l)
+
   pub count-map : (test : B → Bool) (l : List A) → count test (map f l) ≡ count (λ a. test (f a)) l
   unfolding select
   count-map test [] = refl

@@ -28,7 +28,7 @@ drawingShort out d = shorter (out .lengths) (d .lengths) || shorter (out .column
 unfoldable pub redrawAccepts : ℕ → ℕ → TableSizes → TableArrays → DrawingArrays → Answer FlatDrawing
 redrawAccepts space origin s t out =
     refuseIf (tableContradicts s t || ltb space redrawSpace) 13
-    (andThen (redraw origin (tableOfArrays t)) (λ lines. refuseIf (drawingShort out (flatDrawing lines)) 12 (accept (flatDrawing lines))))
+    (andThen (redraw origin (tableOfArrays s t)) (λ lines. refuseIf (drawingShort out (flatDrawing lines)) 12 (accept (flatDrawing lines))))
 
 unfoldable pub redrawAnswer : ℕ → ℕ → TableSizes → TableArrays → DrawingArrays → Answer DrawingSizes
 redrawAnswer space origin s t out =

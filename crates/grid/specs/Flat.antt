@@ -1,7 +1,7 @@
 -- The arrays that calls get and fill. Document 01: "A drawing has its sizes (lines, bytes), two parallel arrays (line lengths in
 -- bytes, line columns) and its text, back to back without line ends. A table has sizes, columns (alignment, declared width), one
 -- section a row, and cells in order of row, then column."
-use Prim.Native.Nat.{ℕ}
+use Prim.Native.Nat.{ℕ, zero, suc, _*_}
 use mathlib.Core.Bool.{Bool, not, _&&_, _||_, cond}
 use mathlib.Core.List.{List, [], _∷_, map, flatMap}
 use lib.ListN.{length, getD, take, drop}
@@ -12,6 +12,12 @@ use Rattle.grid.specs.declared.TableAlignment.{TableAlignment}
 use Rattle.grid.specs.declared.TableAlignment.the-variants.{None, Left, Right, Center}
 use Rattle.grid.specs.declared.GridTableSection.{GridTableSection}
 use Rattle.grid.specs.declared.GridTableSection.the-variants.{Head, Body, Foot}
+
+-- 12: "output space is shorter than the result"
+abbrev pub shorter : List ℕ → List ℕ → Bool
+shorter buffer result = ltb (length buffer) (length result)
+
+-- Drawings
 
 pub record FlatDrawing : Type 0 where
   pub lines : ℕ
@@ -51,6 +57,8 @@ flatDrawing lines =
       text = joinText (map (λ (line : Line). line .text) lines);
     }
 
+-- Tables
+
 -- the numbers that stand for an alignment and a section in an array
 abbrev pub alignmentCode : TableAlignment → ℕ
 alignmentCode None = 0
@@ -76,53 +84,59 @@ pub record TableSizes : Type 0 where
   pub lines : ℕ
   pub bytes : ℕ
 
+-- each column's alignment and width, each row's section, each cell's row, column, colspan, rowspan and number of lines, the lengths of
+-- all cells' lines, and their text back to back
 pub record TableArrays : Type 0 where
-  pub alignments : List ℕ
-  pub widths : List ℕ
+  pub columns : List ℕ
   pub sections : List ℕ
-  pub cellRows : List ℕ
-  pub cellColumns : List ℕ
-  pub colspans : List ℕ
-  pub rowspans : List ℕ
-  pub lineCounts : List ℕ
+  pub cells : List ℕ
   pub lengths : List ℕ
   pub text : List ℕ
+
+unfoldable pub columnsOfArray : ℕ → List ℕ → List GridTableColumn
+columnsOfArray zero array = []
+columnsOfArray (suc n) array = record { alignment = codeAlignment (getD array 0 0); width = getD array 1 0 } ∷ columnsOfArray n (drop 2 array)
+
+-- each cell takes its number of lines from those that are left
+unfoldable pub cellsOfArray : ℕ → List ℕ → List (List ℕ) → List TableCell
+cellsOfArray zero array lines = []
+cellsOfArray (suc n) array lines =
+    record {
+      row = getD array 0 0;
+      column = getD array 1 0;
+      colspan = getD array 2 0;
+      rowspan = getD array 3 0;
+      lines = take (getD array 4 0) lines;
+    } ∷ cellsOfArray n (drop 5 array) (drop (getD array 4 0) lines)
+
+-- every nth number of an array, `count` of them
+unfoldable pub everyNth : ℕ → ℕ → List ℕ → List ℕ
+everyNth n zero array = []
+everyNth n (suc count) array = getD array 0 0 ∷ everyNth n count (drop n array)
+
+abbrev pub alignmentCodes : TableSizes → TableArrays → List ℕ
+alignmentCodes s t = everyNth 2 (s .columns) (t .columns)
+
+abbrev pub lineCounts : TableSizes → TableArrays → List ℕ
+lineCounts s t = everyNth 5 (s .cells) (drop 4 (t .cells))
 
 abbrev pub lengthIs : List ℕ → ℕ → Bool
 lengthIs array n = eqb (length array) n
 
--- 13: each array has exactly its size, the line counts add up to the lines and the line lengths to the bytes, and each number
+-- 13: each array has exactly its size, the numbers of lines add up to the lines and the line lengths to the bytes, and each number
 -- that stands for an alignment or a section is one
 unfoldable pub tableContradicts : TableSizes → TableArrays → Bool
 tableContradicts s t =
-    not (lengthIs (t .alignments) (s .columns) && lengthIs (t .widths) (s .columns) && lengthIs (t .sections) (s .rows)
-    && lengthIs (t .cellRows) (s .cells) && lengthIs (t .cellColumns) (s .cells) && lengthIs (t .colspans) (s .cells)
-    && lengthIs (t .rowspans) (s .cells) && lengthIs (t .lineCounts) (s .cells) && lengthIs (t .lengths) (s .lines)
-    && lengthIs (t .text) (s .bytes) && eqb (sum (t .lineCounts)) (s .lines) && eqb (sum (t .lengths)) (s .bytes)
-    && all (λ code. ltb code 4) (t .alignments) && all (λ code. ltb code 3) (t .sections))
+    not (lengthIs (t .columns) (2 * s .columns) && lengthIs (t .sections) (s .rows) && lengthIs (t .cells) (5 * s .cells)
+    && lengthIs (t .lengths) (s .lines) && lengthIs (t .text) (s .bytes) && eqb (sum (lineCounts s t)) (s .lines)
+    && eqb (sum (t .lengths)) (s .bytes) && all (λ code. ltb code 4) (alignmentCodes s t) && all (λ code. ltb code 3) (t .sections))
 
-unfoldable pub columnsOfArrays : List ℕ → List ℕ → List GridTableColumn
-columnsOfArrays [] widths = []
-columnsOfArrays (a ∷ as′) widths = record { alignment = codeAlignment a; width = getD widths 0 0 } ∷ columnsOfArrays as′ (drop 1 widths)
-
--- the cells: each takes the next of every array, and its line count of the lines
-unfoldable pub cellsWith : List ℕ → List ℕ → List ℕ → List ℕ → List ℕ → List (List ℕ) → List TableCell
-cellsWith [] columns colspans rowspans counts lines = []
-cellsWith (r ∷ rs) columns colspans rowspans counts lines =
+unfoldable pub tableOfArrays : TableSizes → TableArrays → Table
+tableOfArrays s t =
     record {
-      row = r;
-      column = getD columns 0 0;
-      colspan = getD colspans 0 0;
-      rowspan = getD rowspans 0 0;
-      lines = take (getD counts 0 0) lines;
-    } ∷ cellsWith rs (drop 1 columns) (drop 1 colspans) (drop 1 rowspans) (drop 1 counts) (drop (getD counts 0 0) lines)
-
-unfoldable pub tableOfArrays : TableArrays → Table
-tableOfArrays t =
-    record {
-      columns = columnsOfArrays (t .alignments) (t .widths);
+      columns = columnsOfArray (s .columns) (t .columns);
       sections = map codeSection (t .sections);
-      cells = cellsWith (t .cellRows) (t .cellColumns) (t .colspans) (t .rowspans) (t .lineCounts) (splitText (t .lengths) (t .text));
+      cells = cellsOfArray (s .cells) (t .cells) (splitText (t .lengths) (t .text));
     }
 
 -- all cells' lines, in order
@@ -139,21 +153,18 @@ tableSizes t =
       bytes = length (joinText (tableLines t));
     }
 
+abbrev pub columnNumbers : GridTableColumn → List ℕ
+columnNumbers c = alignmentCode (c .alignment) ∷ c .width ∷ []
+
+abbrev pub tableCellNumbers : TableCell → List ℕ
+tableCellNumbers c = c .row ∷ c .column ∷ c .colspan ∷ c .rowspan ∷ length (c .lines) ∷ []
+
 unfoldable pub tableArrays : Table → TableArrays
 tableArrays t =
     record {
-      alignments = map (λ (c : GridTableColumn). alignmentCode (c .alignment)) (t .columns);
-      widths = map (λ (c : GridTableColumn). c .width) (t .columns);
+      columns = flatMap columnNumbers (t .columns);
       sections = map sectionCode (t .sections);
-      cellRows = map (λ (c : TableCell). c .row) (t .cells);
-      cellColumns = map (λ (c : TableCell). c .column) (t .cells);
-      colspans = map (λ (c : TableCell). c .colspan) (t .cells);
-      rowspans = map (λ (c : TableCell). c .rowspan) (t .cells);
-      lineCounts = map (λ (c : TableCell). length (c .lines)) (t .cells);
+      cells = flatMap tableCellNumbers (t .cells);
       lengths = map length (tableLines t);
       text = joinText (tableLines t);
     }
-
--- 12: "output space is shorter than the result"
-abbrev pub shorter : List ℕ → List ℕ → Bool
-shorter buffer result = ltb (length buffer) (length result)

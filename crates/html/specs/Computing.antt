@@ -3,8 +3,8 @@ use Rattle.drawing.specs.Computing.{redrawing}
 use lib.Ieee.{round}
 use Rattle.html.specs.Shares.{hundredthsOf, percentOf, shareOf, shares, fraction, shareText}
 use Rattle.html.specs.Page.{columnGroup, cellPage, rowPage, page}
-use Rattle.html.specs.PageCall.{asTableSizes, asTableArrays, pageTooLarge, pageBytes, pageAccepts, pageAnswer, pageAfterwards}
+use Rattle.html.specs.PageCall.{pageContradicts, pageCells, pageTable, pageTooLarge, pageBytes, pageAccepts, pageAnswer, pageAfterwards}
 
 unfoldable pub rendering : Unit {0}
-unfolding redrawing hundredthsOf percentOf shareOf shares fraction shareText columnGroup cellPage rowPage page asTableSizes asTableArrays pageTooLarge pageBytes pageAccepts pageAnswer pageAfterwards
+unfolding redrawing round hundredthsOf percentOf shareOf shares fraction shareText columnGroup cellPage rowPage page pageContradicts pageCells pageTable pageTooLarge pageBytes pageAccepts pageAnswer pageAfterwards
 rendering = tt

@@ -9,8 +9,9 @@ use Rattle.grid.specs.Answer.{Answer, accept, refuseIf, andThen, afterwards, ov
 use Rattle.grid.specs.Limits.{maxRegister}
 use Rattle.grid.specs.Values.{Line, Layout}
 use Rattle.grid.specs.Read.{readLayout}
-use Rattle.grid.specs.Flat.{FlatDrawing, drawingContradicts, linesOf, shorter}
-use Rattle.grid.specs.TableCall.{tableSpace, noCell}
+use Rattle.grid.specs.Flat.{FlatDrawing, linesOf, shorter}
+use Rattle.grid.specs.LayoutCall.{LayoutSpace}
+use Rattle.grid.specs.TableCall.{readContradicts, noCell}
 use Rattle.sourcepos.specs.Positions.{Sourcepos, Placed, tablePosition, rowPosition, cellPosition}
 
 -- a drawing as lent, with the number and the table byte of each line
@@ -19,9 +20,9 @@ pub record FlatPlaced : Type 0 where
   pub numbers : List ℕ
   pub tableBytes : List ℕ
 
-unfoldable pub placedContradicts : FlatPlaced → Bool
-placedContradicts p =
-    drawingContradicts (p .drawing) || not (eqb (length (p .numbers)) (p .drawing .lines) && eqb (length (p .tableBytes)) (p .drawing .lines))
+unfoldable pub placedContradicts : LayoutSpace → ℕ → FlatPlaced → Bool
+placedContradicts w space p =
+    readContradicts w space (p .drawing) || not (eqb (length (p .numbers)) (p .drawing .lines) && eqb (length (p .tableBytes)) (p .drawing .lines))
 
 unfoldable pub placedOf : FlatPlaced → Placed
 placedOf p = record { lines = linesOf (p .drawing); numbers = p .numbers; tableBytes = p .tableBytes }
@@ -32,9 +33,9 @@ numbersTooLarge p =
     not (isEmpty (linesOf (p .drawing)))
     && (any (λ n. ltb maxRegister n) (p .numbers) || any (λ n. ltb maxRegister n) (p .tableBytes))
 
-unfoldable pub placedLayout : ℕ → FlatPlaced → Answer Layout
-placedLayout space p =
-    refuseIf (placedContradicts p || ltb space tableSpace) 13
+unfoldable pub placedLayout : LayoutSpace → ℕ → FlatPlaced → Answer Layout
+placedLayout w space p =
+    refuseIf (placedContradicts w space p) 13
     (refuseIf (numbersTooLarge p) 2 (readLayout (linesOf (p .drawing))))
 
 abbrev pub fourNumbers : Sourcepos → List ℕ
@@ -58,26 +59,26 @@ pub record PositionsFound : Type 0 where
   pub rows : ℕ
   pub cells : ℕ
 
-unfoldable pub positionsAccept : ℕ → FlatPlaced → PositionArrays → Answer Layout
-positionsAccept space p out =
-    andThen (placedLayout space p)
+unfoldable pub positionsAccept : LayoutSpace → ℕ → FlatPlaced → PositionArrays → Answer Layout
+positionsAccept w space p out =
+    andThen (placedLayout w space p)
     (λ l. refuseIf (shorter (out .rows) (positionArrays (placedOf p) l .rows) || shorter (out .cells) (positionArrays (placedOf p) l .cells)) 12 (accept l))
 
-unfoldable pub positionsAnswer : ℕ → FlatPlaced → PositionArrays → Answer PositionsFound
-positionsAnswer space p out =
-    andThen (positionsAccept space p out)
+unfoldable pub positionsAnswer : LayoutSpace → ℕ → FlatPlaced → PositionArrays → Answer PositionsFound
+positionsAnswer w space p out =
+    andThen (positionsAccept w space p out)
     (λ (l : Layout). accept (record { table = tablePosition (placedOf p); rows = length (l .rows); cells = length (l .cells) }))
 
-unfoldable pub positionsAfterwards : ℕ → FlatPlaced → PositionArrays → PositionArrays
-positionsAfterwards space p out =
-    afterwards (positionsAccept space p out)
+unfoldable pub positionsAfterwards : LayoutSpace → ℕ → FlatPlaced → PositionArrays → PositionArrays
+positionsAfterwards w space p out =
+    afterwards (positionsAccept w space p out)
     (λ l. record {
       rows = over (positionArrays (placedOf p) l .rows) (out .rows);
       cells = over (positionArrays (placedOf p) l .cells) (out .cells);
     }) out
 
 -- the position of one cell; 13 where its number is past the end
-unfoldable pub cellPositionAnswer : ℕ → FlatPlaced → ℕ → Answer Sourcepos
-cellPositionAnswer space p k =
-    andThen (placedLayout space p)
+unfoldable pub cellPositionAnswer : LayoutSpace → ℕ → FlatPlaced → ℕ → Answer Sourcepos
+cellPositionAnswer w space p k =
+    andThen (placedLayout w space p)
     (λ (l : Layout). refuseIf (leb (length (l .cells)) k) 13 (accept (cellPosition (placedOf p) l (getD (l .cells) k noCell))))

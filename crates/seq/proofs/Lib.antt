@@ -1,3 +1,4 @@
+mod Examples
 pub mod ListsLaws
 pub mod Tests
 pub mod Ranges

@@ -1,1 +1,10 @@
 pub mod Examples
+pub mod RectangleLaws
+pub mod SkylineLaws
+pub mod TraceLaws
+pub mod CoverLaws
+pub mod CoverTheorems
+pub mod LayoutLaws
+pub mod ReadLaws
+pub mod SeparatorLaws
+pub mod SectionLaws

@@ -11,6 +11,8 @@ pub mod Same
 pub mod Cover
 pub mod Flat
 pub mod LayoutCall
+pub mod Arrays
+pub mod Reach
 pub mod CutCall
 pub mod TableCall
 pub mod Listing

@@ -28,13 +28,6 @@ unfoldable pub largest : List ℕ → ℕ
 largest [] = 0
 largest (n ∷ ns) = max n (largest ns)
 
--- are two lists of numbers the same
-unfoldable pub same : List ℕ → List ℕ → Bool
-same [] [] = true
-same [] (n ∷ ns) = false
-same (m ∷ ms) [] = false
-same (m ∷ ms) (n ∷ ns) = eqb m n && same ms ns
-
 module _ {A : Type 0} where
   unfoldable pub all : (A → Bool) → List A → Bool
   all test [] = true

@@ -24,15 +24,20 @@ abbrev pub characterIf : Bool → ℕ → ℕ → Decoded
 characterIf true value size = Character value size
 characterIf false value size = Refused
 
--- The character at the start of the bytes, by its first three. A number that fewer bytes could hold is not UTF-8. Four bytes
--- are refused unread, since no character of the set takes four. At the end of a line 0 stands for a missing byte: it goes on with nothing and is outside the set
+-- two and three bytes that go on, with a number that fewer bytes could not hold: else it is not UTF-8
+unfoldable pub fromTwo : ℕ → ℕ → Decoded
+fromTwo a b = characterIf (continues b && (leb 0x80 (twoBytes a b) && inSet (twoBytes a b))) (twoBytes a b) 2
+
+unfoldable pub fromThree : ℕ → ℕ → ℕ → Decoded
+fromThree a b c =
+    characterIf (continues b && (continues c && (leb 0x800 (threeBytes a b c) && inSet (threeBytes a b c)))) (threeBytes a b c) 3
+
+-- The character at the start of the bytes, by its first three. Four bytes are refused unread, since no character of the set takes four.
+-- At the end of a line 0 stands for a missing byte: it goes on with nothing and is outside the set
 unfoldable pub decoded : ℕ → ℕ → ℕ → Decoded
 decoded a b c =
     cond (ltb a 0x80) (characterIf (inSet a) a 1)
-    (cond (within 0xc0 0xdf a) (characterIf (continues b && (leb 0x80 (twoBytes a b) && inSet (twoBytes a b))) (twoBytes a b) 2)
-    (cond (within 0xe0 0xef a)
-    (characterIf (continues b && (continues c && (leb 0x800 (threeBytes a b c) && inSet (threeBytes a b c)))) (threeBytes a b c) 3)
-    Refused))
+    (cond (within 0xc0 0xdf a) (fromTwo a b) (cond (within 0xe0 0xef a) (fromThree a b c) Refused))
 
 unfoldable pub character : List ℕ → Decoded
 character s = decoded (getD s 0 0) (getD s 1 0) (getD s 2 0)

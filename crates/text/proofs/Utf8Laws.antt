@@ -1,0 +1,224 @@
+-- Laws of specs/Utf8.antt.
+-- Assumes nothing.
+use Prim.Native.Nat.{ℕ, zero, suc, _+_, _-_, _≤_, _<_}
+use mathlib.Core.Path.{_≡_, refl, sym, ap, _∙_}
+use mathlib.Core.Logic.{_⊎_, inl, inr, ⊎-elim}
+use mathlib.Core.Bool.{Bool, true, false, _&&_, cond}
+use mathlib.Core.List.{List, [], _∷_}
+use native.Mathlib.Nat.{add-zero}
+use native.Mathlib.Omega.{arith}
+use lib.Dec.{leb, ltb}
+use lib.ListN.{length, drop, getD, length-drop, drop-of-length-le}
+use lib.Seq.{getD-drop, drop-drop}
+use borrow.Author.Tests.{lt-ltb, le-ltb}
+use Rattle.seq.specs.Lists.{within}
+use Rattle.seq.proofs.ListsLaws.{true-false, both-true, within-low, read-some, drop-step}
+use Rattle.text.proofs.CharactersLaws.{ascii-in-set}
+use Rattle.text.specs.declared.Decoded.{Decoded}
+use Rattle.text.specs.declared.Decoded.the-variants.{Character, Refused}
+use Rattle.text.specs.Characters.{inSet, widthOf}
+use Rattle.text.specs.Utf8.{continues, twoBytes, threeBytes, characterIf, fromTwo, fromThree, decoded, character, CharIndex, charsStep, charsFrom, wellStep, wellFrom, wellFormed}
+
+pub character-when : (known : Bool) (v k : ℕ) → known ≡ true → Character v k ≡ characterIf known v k
+character-when known v k e = rw e
+
+pub refused-unless : (known : Bool) (v k : ℕ) → known ≡ false → Refused ≡ characterIf known v k
+refused-unless known v k e = rw e
+
+-- ---- from bytes, in the order of the code's tests
+module _ (a b : ℕ) (t : Bool) (e : t ≡ continues b) where
+  pub from-two-refused : t ≡ false → Refused ≡ fromTwo a b
+  unfolding fromTwo
+  from-two-refused f = rw (← e, f)
+
+  pub from-two-is : (u : Bool) (r : Decoded) → t ≡ true → u ≡ inSet (twoBytes a b) → r ≡ characterIf (leb 0x80 (twoBytes a b) && u) (twoBytes a b) 2 → r ≡ fromTwo a b
+  unfolding fromTwo
+  from-two-is u r f g h = h ∙ rw (← e, f, g)
+
+module _ (b c : ℕ) (t u : Bool) (e : t ≡ continues b) (f : u ≡ continues c) (both : t && u ≡ true) where
+  pub second-low : 0x80 ≤ b
+  second-low = within-low 0x80 0xbf b (sym e ∙ both-true t u both .0)
+
+  pub third-low : 0x80 ≤ c
+  third-low = within-low 0x80 0xbf c (sym f ∙ both-true t u both .1)
+
+module _ (a b c : ℕ) (t u : Bool) (e : t ≡ continues b) (f : u ≡ continues c) where
+  pub from-three-refused : t && u ≡ false → Refused ≡ fromThree a b c
+  unfolding fromThree
+  from-three-refused = rw (← e, ← f) (go t u) where
+    go : (t u : Bool) → t && u ≡ false → Refused ≡ characterIf (t && (u && (leb 0x800 (threeBytes a b c) && inSet (threeBytes a b c)))) (threeBytes a b c) 3
+    go true u g = rw g
+    go false u g = refl
+
+  pub from-three-is : (v : Bool) (r : Decoded) → t && u ≡ true → v ≡ inSet (threeBytes a b c) → r ≡ characterIf (leb 0x800 (threeBytes a b c) && v) (threeBytes a b c) 3 → r ≡ fromThree a b c
+  unfolding fromThree
+  from-three-is v r g h k = k ∙ rw (← e, ← f, ← h) (go t u g) where
+    go : (t u : Bool) → t && u ≡ true → characterIf (leb 0x800 (threeBytes a b c) && v) (threeBytes a b c) 3 ≡ characterIf (t && (u && (leb 0x800 (threeBytes a b c) && v))) (threeBytes a b c) 3
+    go true u g = rw g
+    go false u g = absurd (true-false (sym g))
+
+module _ (a b c : ℕ) where
+  pub decoded-one : (t : Bool) (r : Decoded) → a < 0x80 → t ≡ inSet a → r ≡ characterIf t a 1 → r ≡ decoded a b c
+  unfolding decoded
+  decoded-one t r low e h = h ∙ rw (lt-ltb a 0x80 low, e)
+
+  module _ (t : Bool) (high : 0x80 ≤ a) (e : t ≡ within 0xc0 0xdf a) where
+    pub decoded-two : (r : Decoded) → t ≡ true → r ≡ fromTwo a b → r ≡ decoded a b c
+    unfolding decoded
+    decoded-two r f h = h ∙ rw (le-ltb a 0x80 high, ← e, f)
+
+    pub decoded-three : (u : Bool) (r : Decoded) → t ≡ false → u ≡ within 0xe0 0xef a → u ≡ true → r ≡ fromThree a b c → r ≡ decoded a b c
+    unfolding decoded
+    decoded-three u r f g k h = h ∙ rw (le-ltb a 0x80 high, ← e, f, ← g, k)
+
+    pub decoded-refused : (u : Bool) → t ≡ false → u ≡ within 0xe0 0xef a → u ≡ false → Refused ≡ decoded a b c
+    unfolding decoded
+    decoded-refused u f g k = rw (le-ltb a 0x80 high, ← e, f, ← g, k)
+
+-- ---- at a place of a line
+module _ (s : List ℕ) (at : ℕ) where
+  pub character-past : length s ≤ at → Refused ≡ character (drop at s)
+  unfolding character decoded inSet widthOf
+  character-past h = rw (drop-of-length-le s h)
+
+  pub character-at : (a b c : ℕ) (r : Decoded) → a ≡ getD s at 0 → b ≡ getD s (at + 1) 0 → c ≡ getD s (at + 2) 0 → r ≡ decoded a b c → r ≡ character (drop at s)
+  unfolding character
+  character-at a b c r e f g h = h ∙ simp (getD-drop, add-zero, e, f, g)
+
+-- ---- what a character is: in the set, of one to three bytes, the last of which is there
+known : (t : Bool) (w n v k : ℕ) → characterIf t w n ≡ Character v k → (t ≡ true) × (w ≡ v) × (n ≡ k)
+known true w n v k e = (refl, cc, cc)
+known false w n v k e = absurd (let z : _≡_ {A = ℕ} 0 1 = cc in omega arith)
+
+-- of the first three bytes and the character that they make
+record Made (a b c v k : ℕ) : Type 0 where
+  in-set : inSet v ≡ true
+  last-byte : ((k ≡ 1) × (a ≡ v)) ⊎ (((k ≡ 2) × (continues b ≡ true)) ⊎ ((k ≡ 3) × (continues c ≡ true)))
+
+module _ (a b c v k : ℕ) where
+  made-of-one : characterIf (inSet a) a 1 ≡ Character v k → Made a b c v k
+  made-of-one e =
+      let (t, w, n) = known (inSet a) a 1 v k e in
+      record { in-set = rw w at t; last-byte = inl (sym n, w) }
+
+  made-of-two : fromTwo a b ≡ Character v k → Made a b c v k
+  unfolding fromTwo
+  made-of-two e =
+      let w = twoBytes a b in
+      let (t, same, n) = known (continues b && (leb 0x80 w && inSet w)) w 2 v k e in
+      let (goes-on, rest) = both-true (continues b) (leb 0x80 w && inSet w) t in
+      record { in-set = rw same at (both-true (leb 0x80 w) (inSet w) rest .1); last-byte = inr (inl (sym n, goes-on)) }
+
+  made-of-three : fromThree a b c ≡ Character v k → Made a b c v k
+  unfolding fromThree
+  made-of-three e =
+      let w = threeBytes a b c in
+      let (t, same, n) = known (continues b && (continues c && (leb 0x800 w && inSet w))) w 3 v k e in
+      let (goes-on, rest) = both-true (continues c) (leb 0x800 w && inSet w) (both-true (continues b) (continues c && (leb 0x800 w && inSet w)) t .1) in
+      record { in-set = rw same at (both-true (leb 0x800 w) (inSet w) rest .1); last-byte = inr (inr (sym n, goes-on)) }
+
+  made : decoded a b c ≡ Character v k → Made a b c v k
+  unfolding decoded
+  made = go (ltb a 0x80) (within 0xc0 0xdf a) (within 0xe0 0xef a) where
+    go : (one two three : Bool) → cond one (characterIf (inSet a) a 1) (cond two (fromTwo a b) (cond three (fromThree a b c) Refused)) ≡ Character v k → Made a b c v k
+    go true two three e = made-of-one e
+    go false true three e = made-of-two e
+    go false false true e = made-of-three e
+    go false false false e = absurd (let z : _≡_ {A = ℕ} 0 1 = cc in omega arith)
+
+goes-on-some : (b : ℕ) → continues b ≡ true → b ≡ 0 → ⊥
+goes-on-some b e z = omega (arith, within-low 0x80 0xbf b e)
+
+set-some : (v : ℕ) → inSet v ≡ true → v ≡ 0 → ⊥
+unfolding inSet widthOf
+set-some v e z = true-false (sym e ∙ rw z)
+
+module _ (s : List ℕ) (v k : ℕ) (e : character s ≡ Character v k) where
+  of-bytes : Made (getD s 0 0) (getD s 1 0) (getD s 2 0) v k
+  unfolding character
+  of-bytes = made (getD s 0 0) (getD s 1 0) (getD s 2 0) v k e
+
+  pub character-in-set : inSet v ≡ true
+  character-in-set = of-bytes .in-set
+
+  pub character-some-byte : 1 ≤ k
+  character-some-byte = ⊎-elim (λ h. omega arith) (⊎-elim (λ h. omega arith) (λ h. omega arith)) (of-bytes .last-byte)
+
+  pub character-three-bytes-at-most : k ≤ 3
+  character-three-bytes-at-most = ⊎-elim (λ h. omega arith) (⊎-elim (λ h. omega arith) (λ h. omega arith)) (of-bytes .last-byte)
+
+  pub character-fits : k ≤ length s
+  character-fits =
+      ⊎-elim
+      (λ h. omega (arith, read-some s 0 (λ z. set-some v character-in-set (sym (h .1) ∙ z))))
+      (⊎-elim
+      (λ h. omega (arith, read-some s 1 (goes-on-some (getD s 1 0) (h .1))))
+      (λ h. omega (arith, read-some s 2 (goes-on-some (getD s 2 0) (h .1)))))
+      (of-bytes .last-byte)
+
+pub character-ascii : (b : ℕ) (s : List ℕ) → 0x20 ≤ b → b ≤ 0x7e → character (b ∷ s) ≡ Character b 1
+unfolding character decoded
+character-ascii b s low high = rw (lt-ltb b 0x80 (omega arith), ascii-in-set b low high)
+
+-- ---- the characters of a line, one after the other
+pub chars-skip : (at skip : ℕ) (s : List ℕ) → charsFrom at skip s ≡ charsFrom (at + skip) 0 (drop skip s)
+unfolding charsFrom
+chars-skip at zero s = rw add-zero
+chars-skip at (suc skip) [] = refl
+chars-skip at (suc skip) (b ∷ bs) = chars-skip (at + 1) skip bs ∙ ap (λ (n : ℕ). charsFrom n 0 (drop skip bs)) (omega arith)
+
+pub well-skip : (skip : ℕ) (s : List ℕ) → wellFrom skip s ≡ wellFrom 0 (drop skip s)
+unfolding wellFrom
+well-skip zero s = refl
+well-skip (suc skip) [] = refl
+well-skip (suc skip) (b ∷ bs) = well-skip skip bs
+
+module _ (s : List ℕ) (at : ℕ) where
+  module _ (v k : ℕ) (e : character (drop at s) ≡ Character v k) where
+    inside : at < length s
+    inside = omega (arith, rw length-drop at (character-fits (drop at s) v k e), character-some-byte (drop at s) v k e)
+
+    here : character (getD s at 0 ∷ drop (at + 1) s) ≡ Character v k
+    here = rw (drop-step s at inside) at e
+
+    past : at + 1 + (k - 1) ≡ at + k
+    past = omega (arith, character-some-byte (drop at s) v k e)
+
+    pub chars-next : charsFrom at 0 (drop at s) ≡ record { byte = at; value = v } ∷ charsFrom (at + k) 0 (drop (at + k) s)
+    unfolding charsFrom
+    chars-next = rw (drop-step s at inside, here, chars-skip (at + 1) (k - 1) (drop (at + 1) s), drop-drop (k - 1) (at + 1) s, past)
+
+    pub well-next : wellFrom 0 (drop at s) ≡ wellFrom 0 (drop (at + k) s)
+    unfolding wellFrom
+    well-next = rw (drop-step s at inside, here, well-skip (k - 1) (drop (at + 1) s), drop-drop (k - 1) (at + 1) s, past)
+
+  module _ (e : character (drop at s) ≡ Refused) where
+    pub chars-end : charsFrom at 0 (drop at s) ≡ []
+    unfolding charsFrom
+    chars-end = go (drop at s) e where
+      go : (t : List ℕ) → character t ≡ Refused → charsFrom at 0 t ≡ []
+      go [] e = refl
+      go (b ∷ bs) e = rw e
+
+    pub well-not : at < length s → wellFrom 0 (drop at s) ≡ false
+    unfolding wellFrom
+    well-not h = rw (drop-step s at h, rw (drop-step s at h) at e)
+
+-- what the code's loop over a line says
+module _ (s : List ℕ) (at : ℕ) (d : Decoded) (is : d ≡ character (drop at s)) where
+  pub well-on : (v k : ℕ) → d ≡ Character v k → wellFormed s ≡ wellFrom 0 (drop at s) → wellFormed s ≡ wellFrom 0 (drop (at + k) s)
+  well-on v k e so-far = so-far ∙ well-next s at v k (cc)
+
+  pub size-fits : (v k : ℕ) → d ≡ Character v k → (1 ≤ k) × (at + k ≤ length s)
+  size-fits v k e =
+      let h : character (drop at s) ≡ Character v k = cc in (
+        character-some-byte (drop at s) v k h,
+        omega (arith, rw length-drop at (character-fits (drop at s) v k h), character-some-byte (drop at s) v k h),
+      )
+
+  pub ill-formed : d ≡ Refused → at < length s → wellFormed s ≡ wellFrom 0 (drop at s) → false ≡ wellFormed s
+  ill-formed e inside so-far = sym (so-far ∙ well-not s at (cc) inside)
+
+pub well-to-the-end : (s : List ℕ) (at : ℕ) → at ≤ length s → length s ≤ at → wellFormed s ≡ wellFrom 0 (drop at s) → true ≡ wellFormed s
+unfolding wellFrom
+well-to-the-end s at low high so-far = sym (so-far ∙ rw (drop-of-length-le s high))

@@ -1,0 +1,34 @@
+use borrow.Author.Needs.{needs}
+use Rattle.text.proofs.CharactersLaws.{tab-spans, other-spans}
+use Rattle.text.proofs.characters.span.Statement.{statement}
+use Rattle.text.proofs.characters.span.Tie as tie
+use Rattle.text.proofs.characters.span.Reads as reads
+use Rattle.text.proofs.characters.span.Lts as lts
+use Rattle.text.proofs.characters.columns_or_zero.Reads as columns-or-zero-reads
+use Rattle.text.proofs.characters.tab_columns.Reads as tab-columns-reads
+use Rattle.text.proofs.characters.width.Reads as width-reads
+
+-- src/characters.rt:82:9
+tab-columns-requires : tie.Need-tab-columns-requires
+tab-columns-requires c κs = search needs
+
+-- src/characters.rt:82:9
+returns : tie.Need-returns
+returns c = search (needs, tab-spans)
+
+-- src/characters.rt:84:21
+width-requires : tie.Need-width-requires
+width-requires c κs = search needs
+
+-- src/characters.rt:84:5
+columns-or-zero-requires : tie.Need-columns-or-zero-requires
+columns-or-zero-requires c κs = search needs
+
+-- src/characters.rt:78:1
+returns-2 : tie.Need-returns-2
+returns-2 c = search (needs, other-spans)
+
+pub span-spec : {M : Type 1} → statement M
+span-spec =
+    tie.close
+    (tie.spec tab-columns-requires returns width-requires columns-or-zero-requires returns-2)

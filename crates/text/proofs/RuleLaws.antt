@@ -1,16 +1,16 @@
 -- Laws of specs/Rule.antt.
 -- Assumes nothing.
-use Prim.Native.Nat.{ℕ, zero, suc, _+_, _-_, _≤_, _<_}
+use Prim.Native.Nat.{ℕ, suc, _+_, _-_, _≤_, _<_}
 use mathlib.Core.Path.{_≡_, refl, sym, ap, _∙_}
-use mathlib.Core.Bool.{Bool, true, false, not, _&&_, cond}
+use mathlib.Core.Bool.{Bool, true, false, not, _&&_, _||_, cond}
 use mathlib.Core.List.{List, [], _∷_, _++_}
 use native.Mathlib.Numerals.{add-one}
 use native.Mathlib.Omega.{arith}
 use lib.Dec.{eqb}
 use lib.ListN.{length, take, drop, getD, drop-of-length-le}
 use borrow.Author.Tests.{eq-eqb, ne-eqb, not-true, not-false}
-use Rattle.seq.specs.Lists.{all, isEmpty}
-use Rattle.seq.proofs.ListsLaws.{drop-step, part-to-end, last-apart}
+use Rattle.seq.specs.Lists.{all, any, isEmpty}
+use Rattle.seq.proofs.ListsLaws.{true-false, drop-step, part-to-end, last-apart}
 use Rattle.text.specs.Rule.{toPlus, partsAtPlus, ontoFirst, dropLeadingColon, dropTrailingColon, fills, isSegment, closedSegments, isRule}
 
 -- ---- to the first `+`, from left to right
@@ -61,6 +61,19 @@ closed-first fill part (b ∷ bs) = go (eqb b 0x2b) (partsAtPlus bs) where
   go true parts = refl
   go false [] = refl
   go false (p ∷ parts) = refl
+
+-- a line that starts with a segment and its `+`
+parts-append : (part s : List ℕ) → any (λ b. eqb b 0x2b) part ≡ false → partsAtPlus (part ++ 0x2b ∷ s) ≡ part ∷ partsAtPlus s
+unfolding partsAtPlus any
+parts-append [] s h = refl
+parts-append (b ∷ bs) s h = go (eqb b 0x2b) (λ k. parts-append bs s k) h where
+  go : (t : Bool) → (any (λ b. eqb b 0x2b) bs ≡ false → partsAtPlus (bs ++ 0x2b ∷ s) ≡ bs ∷ partsAtPlus s) → t || any (λ b. eqb b 0x2b) bs ≡ false → cond t ([] ∷ partsAtPlus (bs ++ 0x2b ∷ s)) (ontoFirst b (partsAtPlus (bs ++ 0x2b ∷ s))) ≡ (b ∷ bs) ∷ partsAtPlus s
+  go true later h = absurd (true-false h)
+  go false later h = ap (ontoFirst b) (later h)
+
+pub rule-of-segments : (fill : ℕ) (part s : List ℕ) → any (λ b. eqb b 0x2b) part ≡ false → isRule fill (0x2b ∷ part ++ 0x2b ∷ s) ≡ isSegment fill part && isRule fill (0x2b ∷ s)
+unfolding isRule
+rule-of-segments fill part s h = rw (parts-append part s h) (closed-first fill part s)
 
 -- ---- colons
 pub empty-no-leading-colon : (s : List ℕ) → length s ≡ 0 → s ≡ dropLeadingColon s

@@ -9,7 +9,7 @@ use borrow.Author.Tests.{ne-eqb}
 use Rattle.seq.proofs.ListsLaws.{true-false, within-in, within-above}
 use Rattle.text.specs.declared.Width.{Width}
 use Rattle.text.specs.declared.Width.the-variants.{Columns, Outside}
-use Rattle.text.specs.Characters.{takesOne, takesNone, takesTwo, widthOf, tabColumns, columnsOf, isColumns, inSet, span}
+use Rattle.text.specs.Characters.{tab, takesOne, takesNone, takesTwo, widthOf, tabColumns, columnsOf, isColumns, inSet, span}
 
 -- ---- the table's rows
 module _ (c : ℕ) where
@@ -58,17 +58,17 @@ unfolding tabColumns
 tab-four-columns-at-most column = omega arith
 
 -- ---- spans
-pub span-tab : (column : ℕ) → span column 9 ≡ tabColumns column
+pub span-tab : (column : ℕ) → span column tab ≡ tabColumns column
 unfolding span
 span-tab column = refl
 
-pub span-other : (column c : ℕ) → (c ≡ 9 → ⊥) → span column c ≡ columnsOf (widthOf c)
+pub span-other : (column c : ℕ) → (c ≡ tab → ⊥) → span column c ≡ columnsOf (widthOf c)
 unfolding span
-span-other column c h = rw (ne-eqb c 9 h)
+span-other column c h = rw (ne-eqb c tab h)
 
 pub span-four-columns-at-most : (column c : ℕ) → span column c ≤ 4
 unfolding span
-span-four-columns-at-most column c = go (eqb c 9) where
+span-four-columns-at-most column c = go (eqb c tab) where
   go : (t : Bool) → cond t (tabColumns column) (columnsOf (widthOf c)) ≤ 4
   go true = tab-four-columns-at-most column
   go false = omega (arith, one-or-two-columns-at-most c)
@@ -76,11 +76,11 @@ span-four-columns-at-most column c = go (eqb c 9) where
 -- ---- the set
 pub ascii-in-set : (c : ℕ) → 0x20 ≤ c → c ≤ 0x7e → inSet c ≡ true
 unfolding inSet
-ascii-in-set c low high = rw (ne-eqb c 9 (λ e. omega arith), ascii-one-column c low high)
+ascii-in-set c low high = rw (ne-eqb c tab (λ e. omega arith), ascii-one-column c low high)
 
-pub known-width : (c : ℕ) → inSet c ≡ true → (c ≡ 9 → ⊥) → widthOf c ≡ Columns (columnsOf (widthOf c))
+pub known-width : (c : ℕ) → inSet c ≡ true → (c ≡ tab → ⊥) → widthOf c ≡ Columns (columnsOf (widthOf c))
 unfolding inSet
-known-width c e h = go (widthOf c) (rw (ne-eqb c 9 h) at e) where
+known-width c e h = go (widthOf c) (rw (ne-eqb c tab h) at e) where
   go : (w : Width) → isColumns w ≡ true → w ≡ Columns (columnsOf w)
   go (Columns n) e = refl
   go Outside e = absurd (true-false (sym e))

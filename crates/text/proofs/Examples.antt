@@ -12,7 +12,7 @@ use Rattle.text.specs.declared.Width.the-variants.{Columns, Outside}
 use Rattle.text.specs.declared.Decoded.{Decoded}
 use Rattle.text.specs.declared.Decoded.the-variants.{Character, Refused}
 use Rattle.text.specs.Characters.{widthOf, tabColumns, inSet, span}
-use Rattle.text.specs.Utf8.{continues, fromTwo, fromThree, decoded, character, CharIndex, charsFrom, charIndices, wellFrom, wellFormed}
+use Rattle.text.specs.Utf8.{continues, fromTwo, fromThree, decoded, character, charsFrom, charIndices, wellFrom, wellFormed}
 use Rattle.text.specs.Trim.{trimEnd}
 use Rattle.text.specs.Rule.{toPlus, partsAtPlus, dropTrailingColon, fills, isSegment, closedSegments, isRule}
 

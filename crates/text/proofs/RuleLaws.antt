@@ -1,28 +1,29 @@
 -- Laws of specs/Rule.antt.
 -- Assumes nothing.
-use Prim.Native.Nat.{ℕ, zero, suc, _+_, _-_, _≤_, _<_}
+use Prim.Native.Nat.{ℕ, suc, _+_, _-_, _≤_, _<_}
 use mathlib.Core.Path.{_≡_, refl, sym, ap, _∙_}
-use mathlib.Core.Bool.{Bool, true, false, not, _&&_, cond}
+use mathlib.Core.Bool.{Bool, true, false, not, _&&_, _||_, cond}
 use mathlib.Core.List.{List, [], _∷_, _++_}
 use native.Mathlib.Numerals.{add-one}
 use native.Mathlib.Omega.{arith}
 use lib.Dec.{eqb}
 use lib.ListN.{length, take, drop, getD, drop-of-length-le}
 use borrow.Author.Tests.{eq-eqb, ne-eqb, not-true, not-false}
-use Rattle.seq.specs.Lists.{all, isEmpty}
-use Rattle.seq.proofs.ListsLaws.{drop-step, part-to-end, last-apart}
+use Rattle.seq.specs.Lists.{all, any, isEmpty}
+use Rattle.seq.proofs.ListsLaws.{true-false, drop-step, part-to-end, last-apart}
+use Rattle.text.specs.Characters.{plus, colon}
 use Rattle.text.specs.Rule.{toPlus, partsAtPlus, ontoFirst, dropLeadingColon, dropTrailingColon, fills, isSegment, closedSegments, isRule}
 
 -- ---- to the first `+`, from left to right
 module _ (s : List ℕ) (i : ℕ) (passed : length (toPlus s) ≡ i + length (toPlus (drop i s))) where
-  pub plus-here : i < length s → getD s i 0 ≡ 0x2b → i ≡ length (toPlus s)
+  pub plus-here : i < length s → getD s i 0 ≡ plus → i ≡ length (toPlus s)
   unfolding toPlus
-  plus-here h e = let k : toPlus (drop i s) ≡ [] = rw (drop-step s i h, eq-eqb (getD s i 0) 0x2b e) in omega (arith, rw k at passed)
+  plus-here h e = let k : toPlus (drop i s) ≡ [] = rw (drop-step s i h, eq-eqb (getD s i 0) plus e) in omega (arith, rw k at passed)
 
-  pub no-plus-here : i < length s → (getD s i 0 ≡ 0x2b → ⊥) → length (toPlus s) ≡ i + 1 + length (toPlus (drop (i + 1) s))
+  pub no-plus-here : i < length s → (getD s i 0 ≡ plus → ⊥) → length (toPlus s) ≡ i + 1 + length (toPlus (drop (i + 1) s))
   unfolding toPlus
   no-plus-here h e =
-      let k : toPlus (drop i s) ≡ getD s i 0 ∷ toPlus (drop (i + 1) s) = rw (drop-step s i h, ne-eqb (getD s i 0) 0x2b e) in
+      let k : toPlus (drop i s) ≡ getD s i 0 ∷ toPlus (drop (i + 1) s) = rw (drop-step s i h, ne-eqb (getD s i 0) plus e) in
       omega (arith, rw k at passed)
 
   pub no-plus-left : i ≤ length s → length s ≤ i → i ≡ length (toPlus s)
@@ -33,7 +34,7 @@ module _ (s : List ℕ) (i : ℕ) (passed : length (toPlus s) ≡ i + length (to
 pub parts-none : (s : List ℕ) → length s ≤ length (toPlus s) → partsAtPlus s ≡ s ∷ []
 unfolding partsAtPlus toPlus
 parts-none [] h = refl
-parts-none (b ∷ bs) h = go (eqb b 0x2b) (λ k. parts-none bs k) h where
+parts-none (b ∷ bs) h = go (eqb b plus) (λ k. parts-none bs k) h where
   go : (t : Bool) → (length bs ≤ length (toPlus bs) → partsAtPlus bs ≡ bs ∷ []) → suc (length bs) ≤ length (cond t [] (b ∷ toPlus bs)) → cond t ([] ∷ partsAtPlus bs) (ontoFirst b (partsAtPlus bs)) ≡ (b ∷ bs) ∷ []
   go true later h = absurd (omega arith)
   go false later h = ap (ontoFirst b) (later (omega arith))
@@ -45,7 +46,7 @@ FirstPart n s = partsAtPlus s ≡ take n s ∷ partsAtPlus (drop (suc n) s)
 first-part : (s : List ℕ) → length (toPlus s) < length s → FirstPart (length (toPlus s)) s
 unfolding partsAtPlus toPlus
 first-part [] h = absurd (omega arith)
-first-part (b ∷ bs) h = go (eqb b 0x2b) (λ k. first-part bs k) h where
+first-part (b ∷ bs) h = go (eqb b plus) (λ k. first-part bs k) h where
   go : (t : Bool) → (length (toPlus bs) < length bs → FirstPart (length (toPlus bs)) bs) → length (cond t [] (b ∷ toPlus bs)) < suc (length bs) → cond t ([] ∷ partsAtPlus bs) (ontoFirst b (partsAtPlus bs)) ≡ take (length (cond t [] (b ∷ toPlus bs))) (b ∷ bs) ∷ partsAtPlus (drop (suc (length (cond t [] (b ∷ toPlus bs)))) (b ∷ bs))
   go true later h = refl
   go false later h = ap (ontoFirst b) (later (omega arith))
@@ -56,35 +57,48 @@ parts-first s h = rw (add-one (length (toPlus s))) (first-part s h)
 pub closed-first : (fill : ℕ) (part s : List ℕ) → closedSegments fill (part ∷ partsAtPlus s) ≡ isSegment fill part && closedSegments fill (partsAtPlus s)
 unfolding closedSegments partsAtPlus
 closed-first fill part [] = refl
-closed-first fill part (b ∷ bs) = go (eqb b 0x2b) (partsAtPlus bs) where
+closed-first fill part (b ∷ bs) = go (eqb b plus) (partsAtPlus bs) where
   go : (t : Bool) (parts : List (List ℕ)) → closedSegments fill (part ∷ cond t ([] ∷ parts) (ontoFirst b parts)) ≡ isSegment fill part && closedSegments fill (cond t ([] ∷ parts) (ontoFirst b parts))
   go true parts = refl
   go false [] = refl
   go false (p ∷ parts) = refl
+
+-- a line that starts with a segment and its `+`
+parts-append : (part s : List ℕ) → any (λ b. eqb b plus) part ≡ false → partsAtPlus (part ++ plus ∷ s) ≡ part ∷ partsAtPlus s
+unfolding partsAtPlus any
+parts-append [] s h = refl
+parts-append (b ∷ bs) s h = go (eqb b plus) (λ k. parts-append bs s k) h where
+  go : (t : Bool) → (any (λ b. eqb b plus) bs ≡ false → partsAtPlus (bs ++ plus ∷ s) ≡ bs ∷ partsAtPlus s) → t || any (λ b. eqb b plus) bs ≡ false → cond t ([] ∷ partsAtPlus (bs ++ plus ∷ s)) (ontoFirst b (partsAtPlus (bs ++ plus ∷ s))) ≡ (b ∷ bs) ∷ partsAtPlus s
+  go true later h = absurd (true-false h)
+  go false later h = ap (ontoFirst b) (later h)
+
+pub rule-of-segments : (fill : ℕ) (part s : List ℕ) → any (λ b. eqb b plus) part ≡ false → isRule fill (plus ∷ part ++ plus ∷ s) ≡ isSegment fill part && isRule fill (plus ∷ s)
+unfolding isRule
+rule-of-segments fill part s h = rw (parts-append part s h) (closed-first fill part s)
 
 -- ---- colons
 pub empty-no-leading-colon : (s : List ℕ) → length s ≡ 0 → s ≡ dropLeadingColon s
 empty-no-leading-colon [] h = refl
 empty-no-leading-colon (b ∷ bs) h = absurd (omega arith)
 
-pub no-leading-colon : (s : List ℕ) → (getD s 0 0 ≡ 0x3a → ⊥) → s ≡ dropLeadingColon s
+pub no-leading-colon : (s : List ℕ) → (getD s 0 0 ≡ colon → ⊥) → s ≡ dropLeadingColon s
 no-leading-colon [] h = refl
-no-leading-colon (b ∷ bs) h = rw (ne-eqb b 0x3a h)
+no-leading-colon (b ∷ bs) h = rw (ne-eqb b colon h)
 
-pub leading-colon : (s : List ℕ) → getD s 0 0 ≡ 0x3a → take (length s - 1) (drop 1 s) ≡ dropLeadingColon s
+pub leading-colon : (s : List ℕ) → getD s 0 0 ≡ colon → take (length s - 1) (drop 1 s) ≡ dropLeadingColon s
 leading-colon [] h = absurd (omega arith)
-leading-colon (b ∷ bs) h = part-to-end (b ∷ bs) 1 ∙ rw (eq-eqb b 0x3a h)
+leading-colon (b ∷ bs) h = part-to-end (b ∷ bs) 1 ∙ rw (eq-eqb b colon h)
 
-drop-colon : (s : List ℕ) → dropTrailingColon (s ++ 0x3a ∷ []) ≡ s
+drop-colon : (s : List ℕ) → dropTrailingColon (s ++ colon ∷ []) ≡ s
 unfolding dropTrailingColon
 drop-colon [] = refl
 drop-colon (a ∷ []) = refl
 drop-colon (a ∷ b ∷ s) = ap (λ (l : List ℕ). a ∷ l) (drop-colon (b ∷ s))
 
-keep-other : (s : List ℕ) (b : ℕ) → (b ≡ 0x3a → ⊥) → dropTrailingColon (s ++ b ∷ []) ≡ s ++ b ∷ []
+keep-other : (s : List ℕ) (b : ℕ) → (b ≡ colon → ⊥) → dropTrailingColon (s ++ b ∷ []) ≡ s ++ b ∷ []
 unfolding dropTrailingColon
-keep-other [] b h = rw (ne-eqb b 0x3a h)
-keep-other (a ∷ []) b h = rw (ne-eqb b 0x3a h)
+keep-other [] b h = rw (ne-eqb b colon h)
+keep-other (a ∷ []) b h = rw (ne-eqb b colon h)
 keep-other (a ∷ c ∷ s) b h = ap (λ (l : List ℕ). a ∷ l) (keep-other (c ∷ s) b h)
 
 pub empty-no-trailing-colon : (s : List ℕ) → length s ≡ 0 → s ≡ dropTrailingColon s
@@ -93,10 +107,10 @@ empty-no-trailing-colon [] h = refl
 empty-no-trailing-colon (b ∷ bs) h = absurd (omega arith)
 
 module _ (s : List ℕ) (some : length s ≡ 0 → ⊥) where
-  pub no-trailing-colon : (getD s (length s - 1) 0 ≡ 0x3a → ⊥) → s ≡ dropTrailingColon s
+  pub no-trailing-colon : (getD s (length s - 1) 0 ≡ colon → ⊥) → s ≡ dropTrailingColon s
   no-trailing-colon h = last-apart s some ∙ sym (keep-other (take (length s - 1) s) (getD s (length s - 1) 0) h) ∙ ap dropTrailingColon (sym (last-apart s some))
 
-  pub trailing-colon : getD s (length s - 1) 0 ≡ 0x3a → take (length s - 1) s ≡ dropTrailingColon s
+  pub trailing-colon : getD s (length s - 1) 0 ≡ colon → take (length s - 1) s ≡ dropTrailingColon s
   trailing-colon h =
       sym (drop-colon (take (length s - 1) s)) ∙ ap (λ (b : ℕ). dropTrailingColon (take (length s - 1) s ++ b ∷ [])) (sym h) ∙ ap dropTrailingColon (sym (last-apart s some))
 
@@ -138,19 +152,19 @@ module _ (fill : ℕ) (s : List ℕ) where
     go [] h = refl
     go (b ∷ bs) h = absurd (omega arith)
 
-  pub no-plus-no-rule : (getD s 0 0 ≡ 0x2b → ⊥) → false ≡ isRule fill s
+  pub no-plus-no-rule : (getD s 0 0 ≡ plus → ⊥) → false ≡ isRule fill s
   unfolding isRule
   no-plus-no-rule h = go s h where
-    go : (s : List ℕ) → (getD s 0 0 ≡ 0x2b → ⊥) → false ≡ isRule fill s
+    go : (s : List ℕ) → (getD s 0 0 ≡ plus → ⊥) → false ≡ isRule fill s
     go [] h = refl
-    go (b ∷ bs) h = rw (ne-eqb b 0x2b h)
+    go (b ∷ bs) h = rw (ne-eqb b plus h)
 
-  pub rule-starts : getD s 0 0 ≡ 0x2b → isRule fill s ≡ closedSegments fill (partsAtPlus (take (length s - 1) (drop 1 s)))
+  pub rule-starts : getD s 0 0 ≡ plus → isRule fill s ≡ closedSegments fill (partsAtPlus (take (length s - 1) (drop 1 s)))
   unfolding isRule
   rule-starts h = rw (part-to-end s 1) (go s h) where
-    go : (s : List ℕ) → getD s 0 0 ≡ 0x2b → isRule fill s ≡ closedSegments fill (partsAtPlus (drop 1 s))
+    go : (s : List ℕ) → getD s 0 0 ≡ plus → isRule fill s ≡ closedSegments fill (partsAtPlus (drop 1 s))
     go [] h = absurd (omega arith)
-    go (b ∷ bs) h = rw (eq-eqb b 0x2b h)
+    go (b ∷ bs) h = rw (eq-eqb b plus h)
 
   module _ (rest : List ℕ) (so-far : isRule fill s ≡ closedSegments fill (partsAtPlus rest)) where
     pub rule-ends : length rest ≤ 0 → true ≡ isRule fill s

@@ -17,13 +17,10 @@ use Rattle.text.proofs.CharactersLaws.{ascii-in-set}
 use Rattle.text.specs.declared.Decoded.{Decoded}
 use Rattle.text.specs.declared.Decoded.the-variants.{Character, Refused}
 use Rattle.text.specs.Characters.{inSet, widthOf}
-use Rattle.text.specs.Utf8.{continues, twoBytes, threeBytes, characterIf, fromTwo, fromThree, decoded, character, CharIndex, charsStep, charsFrom, wellStep, wellFrom, wellFormed}
+use Rattle.text.specs.Utf8.{continues, twoBytes, threeBytes, characterIf, fromTwo, fromThree, decoded, character, charsFrom, wellFrom, wellFormed}
 
 pub character-when : (known : Bool) (v k : ℕ) → known ≡ true → Character v k ≡ characterIf known v k
 character-when known v k e = rw e
-
-pub refused-unless : (known : Bool) (v k : ℕ) → known ≡ false → Refused ≡ characterIf known v k
-refused-unless known v k e = rw e
 
 -- ---- from bytes, in the order of the code's tests
 module _ (a b : ℕ) (t : Bool) (e : t ≡ continues b) where

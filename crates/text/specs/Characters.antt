@@ -1,5 +1,5 @@
 -- Document 01, "Characters": the set, and the columns that each of its characters takes.
-use Prim.Native.Nat.{ℕ, _+_, _-_, _%_}
+use Prim.Native.Nat.{ℕ, _-_, _%_}
 use mathlib.Core.Bool.{Bool, true, false, _||_, cond}
 use lib.Dec.{eqb}
 use Rattle.seq.specs.Lists.{within}

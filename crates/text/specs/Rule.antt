@@ -1,7 +1,7 @@
 -- Document 01, "Rule lines": "A rule is `+`, then any number of segments each closed by `+`; a segment loses one leading and one
 -- trailing `:` if present, and the rest is one or more fill bytes."
 use Prim.Native.Nat.{ℕ}
-use mathlib.Core.Bool.{Bool, true, false, not, _&&_, cond}
+use mathlib.Core.Bool.{Bool, false, not, _&&_, cond}
 use mathlib.Core.List.{List, [], _∷_}
 use lib.Dec.{eqb}
 use Rattle.seq.specs.Lists.{all, isEmpty}

@@ -9,7 +9,7 @@ const TAB: u32 = 9;
 
 const TAB_STOP: usize = 4;
 
-pub fn within(a: u32, b: u32, x: u32) -> bool
+pub(crate) fn within(a: u32, b: u32, x: u32) -> bool
     ensures { λ r. ⌜ r ≡ withinRange a b x ⌝ }
 {
     (a <= x) & (x <= b)
@@ -59,7 +59,7 @@ fn is_columns(w: Width) -> bool
     }
 }
 
-pub fn in_set(c: u32) -> bool
+pub(crate) fn in_set(c: u32) -> bool
     ensures { λ r. ⌜ r ≡ inSet c ⌝ }
 {
     (c == TAB) | is_columns(width(c))

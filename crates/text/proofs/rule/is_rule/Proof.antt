@@ -1,4 +1,4 @@
--- `text::rule::is_rule` meets its contract: the invariant: the line is a rule where what is left is closed segments.
+-- `text::rule::is_rule` meets its contract. The invariant: the line is a rule where what is left is closed segments.
 -- Assumes nothing.
 use Prim.Native.Nat.{_≤_}
 use mathlib.Core.Path.{_≡_}

@@ -1,4 +1,4 @@
--- `text::rule::segment_end` meets its contract: the invariant: no `+` was passed, so what is left to count starts at i.
+-- `text::rule::segment_end` meets its contract. The invariant: no `+` was passed, so what is left to count starts at i.
 -- Assumes nothing.
 use Prim.Native.Nat.{_+_, _-_, _≤_}
 use mathlib.Core.Path.{_≡_}

@@ -1,4 +1,4 @@
--- `text::trim::trim_end` meets its contract: the invariant: trimming the first n bytes gives what trimming all gives.
+-- `text::trim::trim_end` meets its contract. The invariant: trimming the first n bytes gives what trimming all gives.
 -- Assumes nothing.
 use Prim.Native.Nat.{_≤_}
 use mathlib.Core.Path.{_≡_}

@@ -1,6 +1,6 @@
 -- `text::utf8::character_if` meets its contract: by the test's two outcomes.
 -- Assumes nothing.
-use Rattle.text.proofs.Utf8Laws.{character-when, refused-unless}
+use Rattle.text.proofs.Utf8Laws.{character-when}
 use borrow.Author.Needs.{needs}
 use Rattle.text.proofs.utf8.character_if.Statement.{statement}
 use Rattle.text.proofs.utf8.character_if.Tie as tie

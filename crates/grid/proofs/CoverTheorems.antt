@@ -19,7 +19,7 @@ use Rattle.grid.specs.Slots.{Grid}
 use Rattle.grid.specs.Trace.{covered, stopped, placed, raise, allDown, traceFrom, trace}
 use Rattle.grid.specs.Cover.{Cover, ground, risen, Next, Placed, Stuck, Overfull, precedes}
 use Rattle.grid.proofs.SkylineLaws.{found-next, Fits, fits-ground, fits-raise}
-use Rattle.grid.proofs.TraceLaws.{trace-done, trace-full, trace-next, Covering, covering, stops, stuck-stops, overfull-stops, placed-ordered}
+use Rattle.grid.proofs.TraceLaws.{trace-done, trace-full, trace-next, covering, stops, stuck-stops, overfull-stops, placed-ordered}
 use Rattle.grid.proofs.CoverLaws.{under, CoverFrom, cover-before, cover-nothing, nothing-left, key, cover-after}
 
 -- ---- a drawing of at least two lines and two columns

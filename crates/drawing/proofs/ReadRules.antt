@@ -5,7 +5,7 @@ use mathlib.Core.Path.{_≡_, refl, sym, ap, ap₂, _∙_}
 use mathlib.Core.Bool.{Bool, true, false, _&&_, cond}
 use mathlib.Core.List.{List, map, map-map, List·Memᴰ}
 use native.Mathlib.Omega.{arith}
-use lib.Dec.{eqb, leb, ltb}
+use lib.Dec.{eqb, ltb}
 use lib.ListN.{length, getD, length-map}
 use borrow.Author.Tests.{lt-ltb, le-leb, eq-eqb, leb-true, ltb-true}
 use Rattle.seq.specs.Lists.{range, upTo, all, any, count, neighbours}
@@ -24,7 +24,7 @@ use Rattle.grid.specs.declared.GridTableSection.{GridTableSection}
 use Rattle.grid.specs.declared.GridTableSection.the-variants.{Head, Body, Foot}
 use Rattle.grid.proofs.CoverTheorems.{traced-covers}
 use Rattle.grid.proofs.LayoutLaws.{length-between, getD-between, between-rises, columnLines-rise, rowLines-rise, left-line, right-line, top-line, bottom-line, column-inside, row-inside, column-starts, row-starts, cells-ordered}
-use Rattle.grid.proofs.ReadLaws.{Passed, passed, table-read}
+use Rattle.grid.proofs.ReadLaws.{passed, table-read}
 use Rattle.grid.proofs.SectionLaws.{above-before, from-after, same-section}
 use Rattle.grid.proofs.SeparatorLaws.{Uncut, read-uncut}
 use Rattle.drawing.specs.GridRules.{mayFollow, comesBefore, inOrder, staysInside, allInside, holdsSquare, coverOnce, allStart, sectionsRun, sameSection, noneCrosses, keepsRules}
@@ -77,7 +77,7 @@ module _ (lines : List Line) (g : Grid) (rs : List Rect) (cover : Cover g rs) wh
   table-rows = simp (length-map, length-between)
 
   -- where the cell of a rectangle stands
-  record Placed (r : Rect) : Type 0 where
+  record Stands (r : Rect) : Type 0 where
     left : Position columns (r .left)
     right : Position columns (r .right)
     top : Position rows (r .top)
@@ -87,9 +87,9 @@ module _ (lines : List Line) (g : Grid) (rs : List Rect) (cover : Cover g rs) wh
     columnEnd : cell r .column + cell r .colspan ≡ indexOf columns (r .right)
     rowEnd : cell r .row + cell r .rowspan ≡ indexOf rows (r .bottom)
 
-  placed : {r : Rect} → List·Memᴰ r rs → Placed r
+  stands : {r : Rect} → List·Memᴰ r rs → Stands r
   unfolding tableCell cellRead indexOf
-  placed {r} m =
+  stands {r} m =
       let h = cover .first r m .bordered in
       let across = position-lt columns (columnLines-rise g rs) (left-line cover m) (right-line cover m) (h .leftBeforeRight) in
       let deep = position-lt rows (rowLines-rise g rs) (top-line cover m) (bottom-line cover m) (h .topAboveBottom) in
@@ -115,7 +115,7 @@ module _ (lines : List Line) (g : Grid) (rs : List Rect) (cover : Cover g rs) wh
   all-inside = rw table-cells (all-map cell (staysInside table) rs ∙ mem-all (λ r. staysInside table (cell r)) rs inside) where
     inside : (r : Rect) → List·Memᴰ r rs → staysInside table (cell r) ≡ true
     inside r m =
-        let p = placed m in
+        let p = stands m in
         and-intro (and-intro (and-intro (lt-ltb 0 (cell r .colspan) (omega (arith, p .wide, p .columnEnd))) (lt-ltb 0 (cell r .rowspan) (omega (arith, p .tall, p .rowEnd))))
         (le-leb (cell r .column + cell r .colspan) (length (table .columns)) (omega (arith, p .columnEnd, table-columns, p .right .inside))))
         (le-leb (cell r .row + cell r .rowspan) (length (table .sections)) (omega (arith, p .rowEnd, table-rows, p .bottom .inside)))
@@ -125,7 +125,7 @@ module _ (lines : List Line) (g : Grid) (rs : List Rect) (cover : Cover g rs) wh
       → holdsSquare i k (cell r) ≡ holds (getD rows i 0) (getD columns k 0) r
   unfolding tableCell cellRead indexOf
   holds-as {r} m i k hi hk =
-      let p = placed m in
+      let p = stands m in
       let rise = rowLines-rise g rs in
       let widen = columnLines-rise g rs in
       ap₂ _&&_
@@ -197,7 +197,7 @@ module _ (lines : List Line) (g : Grid) (rs : List Rect) (cover : Cover g rs) wh
         → sameSection (getD (table .sections) (cell r .row) Body) (getD (table .sections) i Body) ≡ true
     unfolding tableCell cellRead indexOf
     row-section {r} m i low high =
-        let p = placed m in
+        let p = stands m in
         let rise = rowLines-rise g rs in
         let inside : suc i < length rows = omega (arith, p .rowEnd, p .bottom .inside) in
         let y = getD rows i 0 in

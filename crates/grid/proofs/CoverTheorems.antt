@@ -17,9 +17,9 @@ use Rattle.grid.specs.Limits.{maxCells}
 use Rattle.grid.specs.Values.{Rect}
 use Rattle.grid.specs.Slots.{Grid}
 use Rattle.grid.specs.Trace.{covered, stopped, placed, raise, allDown, traceFrom, trace}
-use Rattle.grid.specs.Cover.{Cover, ground, risen, Next, Placed, Stuck, Overfull, precedes}
+use Rattle.grid.specs.Cover.{Cover, Small, ground, risen, Next, Placed, Stuck, Overfull, precedes}
 use Rattle.grid.proofs.SkylineLaws.{found-next, Fits, fits-ground, fits-raise}
-use Rattle.grid.proofs.TraceLaws.{trace-done, trace-full, trace-next, Covering, covering, stops, stuck-stops, overfull-stops, placed-ordered}
+use Rattle.grid.proofs.TraceLaws.{trace-done, trace-full, trace-next, covering, stops, stuck-stops, overfull-stops, placed-ordered}
 use Rattle.grid.proofs.CoverLaws.{under, CoverFrom, cover-before, cover-nothing, nothing-left, key, cover-after}
 
 -- ---- a drawing of at least two lines and two columns
@@ -32,17 +32,21 @@ small-stops : (g : Grid) → leb (g .height) 1 || leb (g .width) 1 ≡ true → 
 unfolding trace
 small-stops g e = rw e
 
+-- A single line, or a drawing one column wide, is refused with 6.
+pub small-stopped : (g : Grid) → Small g → trace g ≡ stopped 6
+small-stopped g small =
+    ⊎-elim (λ (h : g .height ≤ 1). small-stops g (or-left (leb (g .width) 1) (le-leb (g .height) 1 h)))
+    (λ (h : g .width ≤ 1). small-stops g (or-right (leb (g .height) 1) (le-leb (g .width) 1 h))) small
+
 sized-traces : (g : Grid) → leb (g .height) 1 || leb (g .width) 1 ≡ false → trace g ≡ traceFrom g maxCells (ground g)
 unfolding trace
 sized-traces g e = rw e
 
-sized : (g : Grid) → Sized g ⊎ (trace g ≡ stopped 6)
-sized g = ⊎-elim short (λ (h : 1 < g .height). ⊎-elim narrow (λ (k : 1 < g .width). inl (record { tall = h; wide = k })) (le-or-lt (g .width) 1)) (le-or-lt (g .height) 1) where
-  short : g .height ≤ 1 → Sized g ⊎ (trace g ≡ stopped 6)
-  short h = inr (small-stops g (or-left (leb (g .width) 1) (le-leb (g .height) 1 h)))
-
-  narrow : g .width ≤ 1 → Sized g ⊎ (trace g ≡ stopped 6)
-  narrow h = inr (small-stops g (or-right (leb (g .height) 1) (le-leb (g .width) 1 h)))
+sized : (g : Grid) → Sized g ⊎ Small g
+sized g =
+    ⊎-elim (λ (h : g .height ≤ 1). inr (inl h))
+    (λ (h : 1 < g .height). ⊎-elim (λ (k : g .width ≤ 1). inr (inr k)) (λ (k : 1 < g .width). inl (record { tall = h; wide = k })) (le-or-lt (g .width) 1))
+    (le-or-lt (g .height) 1)
 
 traced-sized : (g : Grid) → Sized g → trace g ≡ traceFrom g maxCells (ground g)
 traced-sized g s = sized-traces g (rw (lt-leb (g .height) 1 (s .tall), lt-leb (g .width) 1 (s .wide)))
@@ -124,7 +128,7 @@ cover-overfull g (suc room) sky cs fits cover many = go (left cs fits cover) (λ
 
 -- What tracing gives is a cover, of at most 1,024 rectangles, in order of top, then left.
 pub traced-covers : (g : Grid) (rs : List Rect) → trace g ≡ covered rs → Cover g rs × (length rs ≤ 1024) × (neighbours precedes rs ≡ true)
-traced-covers g rs e = ⊎-elim good (λ (small : trace g ≡ stopped 6). absurd (let z : _≡_ {A = ℕ} 0 1 = cc in omega arith)) (sized g) where
+traced-covers g rs e = ⊎-elim good (λ (small : Small g). absurd (let z : _≡_ {A = ℕ} 0 1 = cc (small-stopped g small) in omega arith)) (sized g) where
   good : Sized g → Cover g rs × (length rs ≤ 1024) × (neighbours precedes rs ≡ true)
   good s =
       let fits = fits-ground g (s .wide) in
@@ -186,41 +190,46 @@ stopped-no-cover g cs e cover = ⊎-elim few many (le-or-lt (length cs) 1024) wh
 
 -- Tracing stops with no other number than 6 and 7.
 pub stopped-six-or-seven : (g : Grid) (number : ℕ) → trace g ≡ stopped number → (number ≡ 6) ⊎ (number ≡ 7)
-stopped-six-or-seven g number e = ⊎-elim good (λ (small : trace g ≡ stopped 6). inl (cc)) (sized g) where
+stopped-six-or-seven g number e = ⊎-elim good (λ (small : Small g). inl (cc (small-stopped g small))) (sized g) where
   good : Sized g → (number ≡ 6) ⊎ (number ≡ 7)
   good s =
       ⊎-elim (λ (h : (number ≡ 6) × Stuck g maxCells (ground g)). inl (h .0)) (λ (h : (number ≡ 7) × Overfull g maxCells (ground g)). inr (h .0))
       (stops g maxCells (ground g) number (sym (traced-sized g s) ∙ e))
 
--- In a drawing of two lines and two columns at least, tracing stops with 6 exactly where, after at most 1,024 rectangles placed, the leftmost lowest column is above the last line and has none to place: no first bordered one, or one that is not level.
-pub stopped-six : (g : Grid) → 1 < g .height → 1 < g .width → (trace g ≡ stopped 6) ↔ Stuck g 1024 (ground g)
-stopped-six g tall wide = (there, back) where
-  s : Sized g
-  s = record { tall = tall; wide = wide }
-
-  there : trace g ≡ stopped 6 → Stuck g 1024 (ground g)
+-- Tracing stops with 6 exactly where the drawing is small, or where, after at most 1,024 rectangles placed, the leftmost lowest column
+-- is above the last line and has none to place: no first bordered rectangle, or one that is not level.
+pub stopped-six : (g : Grid) → (trace g ≡ stopped 6) ↔ (Small g ⊎ Stuck g 1024 (ground g))
+stopped-six g = (there, ⊎-elim (small-stopped g) back) where
+  there : trace g ≡ stopped 6 → Small g ⊎ Stuck g 1024 (ground g)
   there e =
-      ⊎-elim (λ (h : (6 ≡ 6) × Stuck g maxCells (ground g)). h .1) (λ (h : (6 ≡ 7) × Overfull g maxCells (ground g)). absurd (omega arith))
-      (stops g maxCells (ground g) 6 (sym (traced-sized g s) ∙ e))
+      ⊎-elim (λ (s : Sized g).
+      ⊎-elim (λ (h : (6 ≡ 6) × Stuck g maxCells (ground g)). inr (h .1)) (λ (h : (6 ≡ 7) × Overfull g maxCells (ground g)). absurd (omega arith))
+      (stops g maxCells (ground g) 6 (sym (traced-sized g s) ∙ e)))
+      inl (sized g)
 
   back : Stuck g 1024 (ground g) → trace g ≡ stopped 6
-  back h = traced-sized g s ∙ stuck-stops g maxCells (ground g) (h .rectangles) (h .each) (h .fewEnough) (h .notDown) (h .noneNext)
+  back h =
+      ⊎-elim (λ (s : Sized g). traced-sized g s ∙ stuck-stops g maxCells (ground g) (h .rectangles) (h .each) (h .fewEnough) (h .notDown) (h .noneNext))
+      (small-stopped g) (sized g)
 
--- A single line, or a drawing one column wide, is refused with 6.
-pub small-stopped : (g : Grid) → (g .height ≤ 1) ⊎ (g .width ≤ 1) → trace g ≡ stopped 6
-small-stopped g small = ⊎-elim (λ (s : Sized g). absurd (⊎-elim (λ (h : g .height ≤ 1). omega arith) (λ (h : g .width ≤ 1). omega arith) small)) (λ e. e) (sized g)
+placed-sized : (g : Grid) (sky : List ℕ) (rs : List Rect) → Placed g sky rs → 0 < length rs → Sized g
+placed-sized g sky [] each some-placed = absurd (omega arith)
+placed-sized g sky (r ∷ rs) each some-placed =
+    let h = each .0 .first .bordered in
+    record { tall = omega (arith, h .topAboveBottom, h .bottomInside); wide = omega (arith, h .leftBeforeRight, h .rightInside) }
 
 -- Tracing stops with 7 exactly where 1,024 rectangles are placed, each the first bordered one at the leftmost lowest column and level
 -- there, and then a 1,025th is found that is such a one too.
-pub stopped-seven : (g : Grid) → 1 < g .height → 1 < g .width → (trace g ≡ stopped 7) ↔ Overfull g 1024 (ground g)
-stopped-seven g tall wide = (there, back) where
-  s : Sized g
-  s = record { tall = tall; wide = wide }
-
+pub stopped-seven : (g : Grid) → (trace g ≡ stopped 7) ↔ Overfull g 1024 (ground g)
+stopped-seven g = (there, back) where
   there : trace g ≡ stopped 7 → Overfull g 1024 (ground g)
   there e =
+      ⊎-elim (λ (s : Sized g).
       ⊎-elim (λ (h : (7 ≡ 6) × Stuck g maxCells (ground g)). absurd (omega arith)) (λ (h : (7 ≡ 7) × Overfull g maxCells (ground g)). h .1)
-      (stops g maxCells (ground g) 7 (sym (traced-sized g s) ∙ e))
+      (stops g maxCells (ground g) 7 (sym (traced-sized g s) ∙ e)))
+      (λ (small : Small g). absurd (let z : _≡_ {A = ℕ} 6 7 = cc (small-stopped g small) in omega arith)) (sized g)
 
   back : Overfull g 1024 (ground g) → trace g ≡ stopped 7
-  back h = traced-sized g s ∙ overfull-stops g maxCells (ground g) (h .rectangles) (h .each) (h .oneMore)
+  back h =
+      traced-sized g (placed-sized g (ground g) (h .rectangles) (h .each) (omega (arith, h .oneMore)))
+      ∙ overfull-stops g maxCells (ground g) (h .rectangles) (h .each) (h .oneMore)

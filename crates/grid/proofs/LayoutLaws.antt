@@ -1,17 +1,17 @@
 -- Column and row lines of a cover: they are its edges, and each but the last is where a cell starts.
 -- Assumes nothing.
-use Prim.Native.Nat.{ℕ, zero, suc, _+_, _-_, _≤_, _<_}
+use Prim.Native.Nat.{ℕ, zero, suc, _-_, _<_}
 use mathlib.Core.Path.{_≡_, refl, sym, ap, _∙_}
-use mathlib.Core.Bool.{Bool, true, false, _||_}
+use mathlib.Core.Bool.{Bool, true, _||_}
 use mathlib.Core.Logic.{_⊎_, _↔_, inl, inr, ⊎-elim}
-use mathlib.Core.List.{List, [], _∷_, map, List·Memᴰ, List·Memᴰ·head, List·Memᴰ·tail}
+use mathlib.Core.List.{List, [], _∷_, map, List·Memᴰ}
 use native.Mathlib.Nat.{eq-or-lt-of-le}
 use native.Mathlib.Omega.{arith}
 use lib.Dec.{eqb, ltb}
 use lib.ListN.{length, getD, length-map}
 use borrow.Author.Tests.{eqb-true, eq-eqb}
-use Rattle.seq.specs.Lists.{range, upTo, any, select, count, neighbours}
-use Rattle.seq.proofs.Tests.{and-left, and-right, and-intro, or-cases, or-left, or-right, le-or-lt, lex-above, lex-beside, lex-cases}
+use Rattle.seq.specs.Lists.{upTo, any, select, neighbours}
+use Rattle.seq.proofs.Tests.{and-left, and-right, and-intro, or-cases, or-left, or-right, lex-above, lex-beside, lex-cases}
 use Rattle.seq.proofs.Ranges.{mem-range, range-mem}
 use Rattle.seq.proofs.Searches.{any-mem, mem-any, select-mem, mem-select, count-pick, count-one, neighbours-map, neighbours-imply}
 use Rattle.seq.proofs.Positions.{getD-mem}
@@ -92,11 +92,11 @@ module _ (g : Grid) (rs : List Rect) where
   unfolding rowLines
   rowLines-rise = lines-rise (λ r. r .top) (λ r. r .bottom) rs (g .height)
 
-  pub columnLine-inside : {x : ℕ} → List·Memᴰ x (columnLines g rs) → x < g .width
+  columnLine-inside : {x : ℕ} → List·Memᴰ x (columnLines g rs) → x < g .width
   unfolding columnLines
   columnLine-inside {x} m = line-edge (λ r. r .left) (λ r. r .right) rs (g .width) x m .1
 
-  pub rowLine-inside : {y : ℕ} → List·Memᴰ y (rowLines g rs) → y < g .height
+  rowLine-inside : {y : ℕ} → List·Memᴰ y (rowLines g rs) → y < g .height
   unfolding rowLines
   rowLine-inside {y} m = line-edge (λ r. r .top) (λ r. r .bottom) rs (g .height) y m .1
 
@@ -130,7 +130,7 @@ module _ {g : Grid} {rs : List Rect} (cover : Cover g rs) where
       (held .0, held .1, inside-holds y x (held .0) (held .2))
 
   -- two rectangles that hold one square are the same
-  pub same-holder : {q r : Rect} → List·Memᴰ q rs → List·Memᴰ r rs → {y x : ℕ} → suc y < g .height → suc x < g .width → Inside y x q → Inside y x r → q ≡ r
+  same-holder : {q r : Rect} → List·Memᴰ q rs → List·Memᴰ r rs → {y x : ℕ} → suc y < g .height → suc x < g .width → Inside y x q → Inside y x r → q ≡ r
   same-holder m n {y} {x} hy hx i j =
       count-one (holds y x) (cover .once y x hy hx) m n (holds-inside (i .below) (i .above) (i .after) (i .before)) (holds-inside (j .below) (j .above) (j .after) (j .before))
 

@@ -2,12 +2,12 @@
 -- Assumes nothing.
 use Prim.Native.Nat.{ℕ, _+_, _-_, _≤_, _<_}
 use mathlib.Core.Path.{_≡_, refl, sym, ap, _∙_}
-use mathlib.Core.Bool.{Bool, true, false, _&&_}
+use mathlib.Core.Bool.{true, _&&_}
 use mathlib.Core.Logic.{_⊎_, _↔_, inl, inr, ⊎-elim}
 use mathlib.Core.Option.{Option, none, some}
 use native.Mathlib.Nat.{eq-or-lt-of-le}
 use native.Mathlib.Omega.{arith}
-use Rattle.seq.specs.Lists.{range, all, firstSome, someIf}
+use Rattle.seq.specs.Lists.{range, firstSome, someIf}
 use Rattle.seq.proofs.Tests.{true-not-false, and-left, and-right, and-intro, le-or-lt}
 use Rattle.seq.proofs.Searches.{all-range, range-all, FirstSome, firstSome-some, firstSome-none, someIf-some, someIf-none}
 use Rattle.grid.specs.Values.{Rect}

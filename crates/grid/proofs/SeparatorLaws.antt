@@ -1,11 +1,11 @@
 -- A separator is a row line: it cuts through no rectangle of the cover.
 -- Assumes nothing.
-use Prim.Native.Nat.{ℕ, suc, _+_, _-_, _≤_, _<_}
+use Prim.Native.Nat.{ℕ, _+_, _-_, _≤_, _<_}
 use mathlib.Core.Path.{_≡_, refl, _∙_, subst}
 use mathlib.Core.Bool.{Bool, true, false, not, _||_, cond}
-use mathlib.Core.Logic.{_⊎_, ⊎-elim}
+use mathlib.Core.Logic.{⊎-elim}
 use mathlib.Core.Option.{none}
-use mathlib.Core.List.{List, [], _∷_, _++_, map, List·Memᴰ, List·Memᴰ·append-cases}
+use mathlib.Core.List.{List, [], _∷_, List·Memᴰ, List·Memᴰ·append-cases}
 use native.Mathlib.Nat.{eq-or-lt-of-le}
 use native.Mathlib.Omega.{arith}
 use lib.Dec.{eqb}
@@ -20,12 +20,11 @@ use Rattle.text.specs.Characters.{plus, span}
 use Rattle.text.specs.Utf8.{CharIndex, charIndices}
 use Rattle.text.specs.Trim.{trimEnd}
 use Rattle.grid.specs.Values.{Line, Rect}
-use Rattle.grid.specs.Slots.{Grid, Slot, Glyph, Plus, Dash, Pipe, Other, dash, pipe, glyphOf, glyphAt, horizontal, slotsFrom, lineSlots, isSeparator, slotRows, gridOf, slotAt}
+use Rattle.grid.specs.Slots.{Grid, Slot, Plus, Dash, Pipe, Other, dash, pipe, glyphOf, glyphAt, horizontal, slotsFrom, lineSlots, isSeparator, slotRows, gridOf, slotAt}
 use Rattle.grid.specs.Layout.{rowLines}
 use Rattle.grid.specs.Read.{wrongWidth, readRects}
 use Rattle.grid.specs.Answer.{accept}
 use Rattle.grid.specs.Cover.{Bordered, First, Cover}
-use Rattle.grid.proofs.SkylineLaws.{Inside}
 use Rattle.grid.proofs.RectangleLaws.{both-plus, rect}
 use Rattle.grid.proofs.CoverTheorems.{traced-covers}
 use Rattle.grid.proofs.LayoutLaws.{holder, top-line, bottom-line}

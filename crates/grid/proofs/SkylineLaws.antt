@@ -1,6 +1,6 @@
 -- Laws of the skyline: its leftmost lowest column, and what a placed rectangle raises.
 -- Assumes nothing.
-use Prim.Native.Nat.{ℕ, suc, _+_, _-_, _≤_, _<_, min}
+use Prim.Native.Nat.{ℕ, _+_, _-_, _≤_, _<_}
 use mathlib.Core.Path.{_≡_, refl, sym, ap, _∙_}
 use mathlib.Core.Bool.{Bool, true, false, _&&_}
 use mathlib.Core.Logic.{⊎-elim}
@@ -11,9 +11,9 @@ use lib.Dec.{eqb, leb, ltb}
 use lib.ListN.{length, getD, take, drop, replicate, length-append, length-take, length-drop, length-replicate, getD-replicate, List·getD-append}
 use lib.Seq.{getD-take, getD-drop}
 use borrow.Author.Tests.{leb-true, ltb-true, eqb-true, eqb-false, lt-ltb, le-ltb, le-leb, eq-eqb}
-use Rattle.seq.specs.Lists.{all, range, smallest, firstAt, orDefault, someIf}
+use Rattle.seq.specs.Lists.{firstAt, orDefault}
 use Rattle.seq.proofs.Tests.{true-not-false, and-left, and-right, and-intro, refused, le-or-lt, bit, bit-true, bit-false}
-use Rattle.seq.proofs.Searches.{all-range, range-all, someIf-some, FirstAt, firstAt-some, firstAt-none}
+use Rattle.seq.proofs.Searches.{all-range, range-all, someIf-some, firstAt-some, firstAt-none}
 use Rattle.seq.proofs.Positions.{getD-mem, getD-past}
 use Rattle.seq.proofs.Smallest.{smallest-le, smallest-mem}
 use Rattle.grid.specs.Values.{Rect}
@@ -31,7 +31,7 @@ pub record Corner (sky : List ℕ) : Type 0 where
   pub lowest-of : (x : ℕ) → x < length sky → lowest sky ≤ getD sky x 0
   pub first : (x : ℕ) → x < leftmost sky → lowest sky < getD sky x 0
 
-pub corner : (sky : List ℕ) → 0 < length sky → Corner sky
+corner : (sky : List ℕ) → 0 < length sky → Corner sky
 unfolding leftmost
 corner sky some-column = go (firstAt atLowest 0 sky) refl where
   atLowest : ℕ → Bool
@@ -90,7 +90,7 @@ module _ (r : Rect) (sky : List ℕ) (wide : r .left < r .right) (fits : r .righ
   middle-length : length (take (r .left) sky ++ replicate (r .right - r .left) (r .bottom)) ≡ r .right
   middle-length = simp (length-append, length-replicate, front-length) (omega arith)
 
-  pub raise-length : length (raise r sky) ≡ length sky
+  raise-length : length (raise r sky) ≡ length sky
   unfolding raise
   raise-length =
       length-append (take (r .left) sky ++ replicate (r .right - r .left) (r .bottom)) (drop (r .right) sky)

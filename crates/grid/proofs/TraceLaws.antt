@@ -1,6 +1,6 @@
 -- What tracing placed when it ends: the turns of tracing, one by one.
 -- Assumes nothing.
-use Prim.Native.Nat.{ℕ, zero, suc, _+_, _-_, _≤_, _<_}
+use Prim.Native.Nat.{ℕ, zero, suc, _-_, _≤_, _<_}
 use mathlib.Core.Path.{_≡_, refl, sym, ap, _∙_}
 use mathlib.Core.Bool.{Bool, true, false}
 use mathlib.Core.Logic.{_⊎_, inl, inr, ⊎-elim}
@@ -26,7 +26,7 @@ module _ (g : Grid) (sky : List ℕ) where
   trace-done zero done = rw done
   trace-done (suc room) done = rw done
 
-  pub trace-stuck : (room : ℕ) → allDown g sky ≡ false → nextRect g sky ≡ none → traceFrom g room sky ≡ stopped 6
+  trace-stuck : (room : ℕ) → allDown g sky ≡ false → nextRect g sky ≡ none → traceFrom g room sky ≡ stopped 6
   unfolding traceFrom
   trace-stuck zero more gone = rw (more, gone)
   trace-stuck (suc room) more gone = rw (more, gone)
@@ -40,12 +40,12 @@ module _ (g : Grid) (sky : List ℕ) where
   unfolding traceFrom
   trace-next room r more found = rw (more, found)
 
-  pub data Turn : Type 0 where
+  data Turn : Type 0 where
     ended : allDown g sky ≡ true → Turn
     halted : allDown g sky ≡ false → nextRect g sky ≡ none → Turn
     placing : (r : Rect) → allDown g sky ≡ false → nextRect g sky ≡ some r → Turn
 
-  pub turn : Turn
+  turn : Turn
   turn = go (allDown g sky) refl (nextRect g sky) refl where
     go : (t : Bool) → allDown g sky ≡ t → (o : Option Rect) → nextRect g sky ≡ o → Turn
     go true e o f = ended e
@@ -141,7 +141,7 @@ stops g (suc room) sky number e = go (turn g sky) (λ r. stops g room (raise r s
       (λ (h : (number ≡ 7) × Overfull g room (raise r sky)). inr (h .0, overfull-before g room sky (next-found found) (h .1))) (rest r later)
 
 -- where a rectangle is next to place, the skyline is not yet on the last line
-pub next-not-down : {g : Grid} {sky : List ℕ} {r : Rect} → Next g sky r → allDown g sky ≡ false
+next-not-down : {g : Grid} {sky : List ℕ} {r : Rect} → Next g sky r → allDown g sky ≡ false
 next-not-down {g} {sky} {r} next =
     lt-leb (g .height - 1) (lowest sky)
     (omega (arith, next .atLowest, next .first .bordered .topAboveBottom, next .first .bordered .bottomInside))

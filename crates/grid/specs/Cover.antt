@@ -48,6 +48,10 @@ pub record Cover (g : Grid) (rs : List Rect) : Type 0 where
   pub first : (r : Rect) → List·Memᴰ r rs → First g r
   pub once : (y x : ℕ) → suc y < g .height → suc x < g .width → count (holds y x) rs ≡ 1
 
+-- a single line, or one column: no square to cover
+abbrev pub Small : Grid → Type 0
+Small g = (g .height ≤ 1) ⊎ (g .width ≤ 1)
+
 -- in order of top, then left
 abbrev pub precedes : Rect → Rect → Bool
 precedes a b = ltb (a .top) (b .top) || (eqb (a .top) (b .top) && ltb (a .left) (b .left))

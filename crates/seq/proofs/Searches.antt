@@ -1,7 +1,7 @@
 -- Laws of searches over lists and ranges.
 -- Assumes nothing.
 use Prim.Native.Nat.{ℕ, zero, suc, _+_, _≤_, _<_}
-use mathlib.Core.Path.{_≡_, refl, sym, ap, subst, _∙_}
+use mathlib.Core.Path.{_≡_, refl, sym, ap, _∙_}
 use mathlib.Core.Bool.{Bool, true, false, _&&_, _||_, cond}
 use mathlib.Core.Logic.{_⊎_, inl, inr, ⊎-elim}
 use mathlib.Core.Option.{Option, none, some}
@@ -14,7 +14,7 @@ use Rattle.seq.proofs.Tests.{true-not-false, and-left, and-right, and-i
 use Rattle.seq.proofs.Ranges.{mem-range, range-mem}
 
 module _ {A : Type 0} (test : A → Bool) where
-  pub all-mem : (l : List A) → all test l ≡ true → {a : A} → List·Memᴰ a l → test a ≡ true
+  all-mem : (l : List A) → all test l ≡ true → {a : A} → List·Memᴰ a l → test a ≡ true
   unfolding all
   all-mem (b ∷ l) e (List·Memᴰ·head q) = rw q (and-left (test b) (all test l) e)
   all-mem (b ∷ l) e (List·Memᴰ·tail m) = all-mem l (and-right (test b) (all test l) e) m

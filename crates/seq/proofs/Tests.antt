@@ -1,7 +1,7 @@
 -- Laws of tests: what a passed `&&` or `||` tells, and a test as the number 0 or 1.
 -- Assumes nothing.
 use Prim.Native.Nat.{ℕ, _≤_, _<_}
-use mathlib.Core.Path.{_≡_, refl, sym, _∙_}
+use mathlib.Core.Path.{_≡_, refl, sym}
 use mathlib.Core.Bool.{Bool, true, false, _&&_, _||_}
 use mathlib.Core.Logic.{_⊎_, inl, inr, ⊎-elim}
 use native.Mathlib.Omega.{arith}
@@ -33,12 +33,6 @@ pub or-right : (t : Bool) {u : Bool} → u ≡ true → t || u ≡ true
 or-right true e = refl
 or-right false e = e
 
--- two tests that pass together are the same
-pub tests-agree : (t u : Bool) → (t ≡ true → u ≡ true) → (u ≡ true → t ≡ true) → t ≡ u
-tests-agree true u f g = sym (f refl)
-tests-agree false true f g = g refl
-tests-agree false false f g = refl
-
 pub refused : (t : Bool) → (t ≡ true → ⊥) → t ≡ false
 refused true not-passed = absurd (not-passed refl)
 refused false not-passed = refl
@@ -59,14 +53,6 @@ bit-true e = rw e
 
 pub bit-false : {t : Bool} → t ≡ false → bit t ≡ 0
 bit-false e = rw e
-
-pub bit-le : (t : Bool) → bit t ≤ 1
-bit-le true = omega arith
-bit-le false = omega arith
-
-pub bit-one : (t : Bool) → 0 < bit t → t ≡ true
-bit-one true h = refl
-bit-one false h = absurd (omega arith)
 
 -- ---- the order of two pairs of numbers by the first, then the second
 module _ (a b c d : ℕ) where

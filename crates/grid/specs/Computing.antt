@@ -7,6 +7,7 @@ use Rattle.grid.specs.Layout.{columnLines, rowLines, indexOf, between, a
 use Rattle.grid.specs.Cut.{afterFirst, cut, cutFrom, cellFragments, dropEmptyLast, tableCell, tableOf}
 use Rattle.grid.specs.Read.{drawingTooLarge, outsideSet, noRule, wrongWidth, readGrid, readRects, readLayout, readTable}
 use Rattle.grid.specs.Same.{drawnLines, normalCell, normal}
+use Rattle.grid.specs.Cover.{risen}
 use Rattle.grid.specs.Flat.{drawingContradicts, splitText, linesWith, linesOf, flatDrawing, columnsOfArray, cellsOfArray, everyNth, tableContradicts, tableOfArrays, tableSizes, tableArrays}
 use Rattle.grid.specs.LayoutCall.{spaceShort, layoutArrays, layoutSizes, layoutShort, layoutOver, layoutAccepts, layoutAnswer, layoutAfterwards}
 use Rattle.grid.specs.Arrays.{arrayGrid}
@@ -15,5 +16,5 @@ use Rattle.grid.specs.TableCall.{tableShort, tableOver, tableAccepts, ta
 use Rattle.grid.specs.Listing.{splitLines, linesRead, printed, numbered, listing}
 
 unfoldable pub reading : Unit {0}
-unfolding characters glyphOf slotsFrom lineSlots isSeparator gridOf slotAt across down bordered firstRect leftmost standsLevel raise nextRect traceFrom trace columnLines rowLines indexOf between alignmentAt columnsRead lastButOne sectionAt rowsRead cellRead layoutOf afterFirst cut cutFrom cellFragments dropEmptyLast tableCell tableOf drawingTooLarge outsideSet noRule wrongWidth readGrid readRects readLayout readTable drawnLines normalCell normal drawingContradicts splitText linesWith linesOf flatDrawing columnsOfArray cellsOfArray everyNth tableContradicts tableOfArrays tableSizes tableArrays spaceShort layoutArrays layoutSizes layoutShort layoutOver layoutAccepts layoutAnswer layoutAfterwards arrayGrid badRange cutTooLarge cutAnswer cutNumbers cutNumbersAnswer cutText tableShort tableOver tableAccepts tableAnswer tableAfterwards cellCuts cellAccepts cellAnswer cellAfterwards splitLines linesRead printed numbered listing
+unfolding characters glyphOf slotsFrom lineSlots isSeparator gridOf slotAt across down bordered firstRect leftmost standsLevel raise nextRect traceFrom trace columnLines rowLines indexOf between alignmentAt columnsRead lastButOne sectionAt rowsRead cellRead layoutOf afterFirst cut cutFrom cellFragments dropEmptyLast tableCell tableOf drawingTooLarge outsideSet noRule wrongWidth readGrid readRects readLayout readTable drawnLines normalCell normal risen drawingContradicts splitText linesWith linesOf flatDrawing columnsOfArray cellsOfArray everyNth tableContradicts tableOfArrays tableSizes tableArrays spaceShort layoutArrays layoutSizes layoutShort layoutOver layoutAccepts layoutAnswer layoutAfterwards arrayGrid badRange cutTooLarge cutAnswer cutNumbers cutNumbersAnswer cutText tableShort tableOver tableAccepts tableAnswer tableAfterwards cellCuts cellAccepts cellAnswer cellAfterwards splitLines linesRead printed numbered listing
 reading = tt

@@ -1,5 +1,6 @@
 pub mod Examples
 pub mod RectangleLaws
+pub mod ArrayLaws
 pub mod SkylineLaws
 pub mod TraceLaws
 pub mod CoverLaws
@@ -8,3 +9,9 @@ pub mod LayoutLaws
 pub mod ReadLaws
 pub mod SeparatorLaws
 pub mod SectionLaws
+pub mod GlyphLaws
+pub mod HoldsLaws
+pub mod SlotLaws
+pub mod LayoutPartsLaws
+pub mod EntryLaws
+pub mod FlatLaws

@@ -18,11 +18,11 @@ use Rattle.grid.specs.Cut.{tableOf}
 use Rattle.grid.specs.Read.{drawingTooLarge, outsideSet, noRule, wrongWidth, rectangles, readGrid, readRects, readLayout, readTable}
 
 module _ {A : Type 0} where
-  passed-if : (t : Bool) (number : ℕ) (next : Answer A) (a : A) → refuseIf t number next ≡ accept a → (t ≡ false) × (next ≡ accept a)
+  pub passed-if : (t : Bool) (number : ℕ) (next : Answer A) (a : A) → refuseIf t number next ≡ accept a → (t ≡ false) × (next ≡ accept a)
   passed-if true number next a e = absurd (let z : _≡_ {A = ℕ} 0 1 = cc in omega arith)
   passed-if false number next a e = (refl, e)
 
-  passed-at : (o : Option ℕ) (number : ℕ) (next : Answer A) (a : A) → refuseAt o number next ≡ accept a → (o ≡ none) × (next ≡ accept a)
+  pub passed-at : (o : Option ℕ) (number : ℕ) (next : Answer A) (a : A) → refuseAt o number next ≡ accept a → (o ≡ none) × (next ≡ accept a)
   passed-at none number next a e = (refl, e)
   passed-at (some place) number next a e = absurd (let z : _≡_ {A = ℕ} 0 1 = cc in omega arith)
 

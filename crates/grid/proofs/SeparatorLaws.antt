@@ -53,7 +53,7 @@ rule-slots column (c ∷ cs) {s} m =
 abbrev Across : Grid → ℕ → Type 0
 Across g s = (x : ℕ) → x < g .width → horizontal (glyphAt g s x) ≡ true
 
-row-filled : (g : Grid) → wrongWidth g ≡ none → (y : ℕ) → y < length (g .rows) → length (getD (g .rows) y []) ≡ g .width
+pub row-filled : (g : Grid) → wrongWidth g ≡ none → (y : ℕ) → y < length (g .rows) → length (getD (g .rows) y []) ≡ g .width
 unfolding wrongWidth
 row-filled g e y h =
     let row = getD (g .rows) y [] in

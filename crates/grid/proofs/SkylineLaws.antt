@@ -31,7 +31,7 @@ pub record Corner (sky : List ℕ) : Type 0 where
   pub lowest-of : (x : ℕ) → x < length sky → lowest sky ≤ getD sky x 0
   pub first : (x : ℕ) → x < leftmost sky → lowest sky < getD sky x 0
 
-corner : (sky : List ℕ) → 0 < length sky → Corner sky
+pub corner : (sky : List ℕ) → 0 < length sky → Corner sky
 unfolding leftmost
 corner sky some-column = go (firstAt atLowest 0 sky) refl where
   atLowest : ℕ → Bool

@@ -26,7 +26,7 @@ module _ (g : Grid) (sky : List ℕ) where
   trace-done zero done = rw done
   trace-done (suc room) done = rw done
 
-  trace-stuck : (room : ℕ) → allDown g sky ≡ false → nextRect g sky ≡ none → traceFrom g room sky ≡ stopped 6
+  pub trace-stuck : (room : ℕ) → allDown g sky ≡ false → nextRect g sky ≡ none → traceFrom g room sky ≡ stopped 6
   unfolding traceFrom
   trace-stuck zero more gone = rw (more, gone)
   trace-stuck (suc room) more gone = rw (more, gone)

@@ -1,11 +1,12 @@
 -- Slots as arrays: line y's slots stand from index y * 128 on.
-use Prim.Native.Nat.{ℕ, _+_, _*_, _≤_, _<_}
+use Prim.Native.Nat.{ℕ, zero, suc, _+_, _*_, _≤_, _<_}
 use mathlib.Core.Path.{_≡_}
 use mathlib.Core.Bool.{cond}
-use mathlib.Core.List.{List, [], map}
+use mathlib.Core.List.{List, [], _∷_, map}
 use lib.ListN.{length, getD, take, drop}
 use lib.Dec.{eqb}
 use Rattle.seq.specs.Lists.{upTo}
+use Rattle.grid.specs.Values.{Rect}
 use Rattle.grid.specs.Slots.{Glyph, Plus, Dash, Pipe, Other, Slot, Grid}
 use Rattle.grid.specs.LayoutCall.{slotSpace}
 
@@ -50,3 +51,9 @@ pub record Roomy (height width : ℕ) (glyphs offsets : List ℕ) : Type 0 where
   pub widthFits : width ≤ 128
   pub glyphRoom : slotSpace ≤ length glyphs
   pub offsetRoom : slotSpace ≤ length offsets
+
+-- n rectangles of an array, four numbers each: top, left, bottom, right
+unfoldable pub rectsOf : ℕ → List ℕ → List Rect
+rectsOf zero array = []
+rectsOf (suc n) array =
+    record { top = getD array 0 0; left = getD array 1 0; bottom = getD array 2 0; right = getD array 3 0 } ∷ rectsOf n (drop 4 array)

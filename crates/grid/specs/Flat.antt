@@ -41,8 +41,11 @@ unfoldable pub linesWith : List (List ℕ) → List ℕ → List Line
 linesWith [] columns = []
 linesWith (t ∷ ts) columns = record { text = t; column = getD columns 0 0 } ∷ linesWith ts (drop 1 columns)
 
+abbrev pub linesFrom : List ℕ → List ℕ → List ℕ → List Line
+linesFrom lengths columns text = linesWith (splitText lengths text) columns
+
 unfoldable pub linesOf : FlatDrawing → List Line
-linesOf d = linesWith (splitText (d .lengths) (d .text)) (d .columns)
+linesOf d = linesFrom (d .lengths) (d .columns) (d .text)
 
 abbrev pub joinText : List (List ℕ) → List ℕ
 joinText lines = flatMap (λ line. line) lines

@@ -11,6 +11,7 @@ pub mod Same
 pub mod Cover
 pub mod Flat
 pub mod LayoutCall
+pub mod LayoutParts
 pub mod Arrays
 pub mod Reach
 pub mod CutCall

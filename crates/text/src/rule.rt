@@ -4,7 +4,7 @@ ghost use lib.ListN.{length};
 ghost use Rattle.text.specs.Rule.{toPlus, dropLeadingColon, dropTrailingColon, fills, isSegment, isRule};
 
 // The bytes before the first `+`, or all where there is none.
-fn segment_end(rest: &[u8]) -> usize
+pub fn segment_end(rest: &[u8]) -> usize
     ensures { λ r. ⌜ r ≡ length (toPlus (now (rest .entry))) ⌝ }
 {
     let mut i = 0;

@@ -1,0 +1,5 @@
+pub mod CheckLaws
+pub mod EdgeLaws
+pub mod PartLaws
+pub mod WriteLaws
+pub mod AgreeLaws

@@ -1,0 +1,16 @@
+-- `entries::check::contradicts` meets its contract: from its call.
+-- Assumes nothing.
+use Rattle.grid.specs.Flat.{drawingContradicts}
+use borrow.Author.Needs.{needs}
+use Rattle.entries.proofs.check.contradicts.Statement.{statement}
+use Rattle.entries.proofs.check.contradicts.Tie as tie
+
+adds-up-requires : tie.Need-adds-up-requires
+adds-up-requires c κs = search needs
+
+returns : tie.Need-returns
+unfolding drawingContradicts
+returns c = rw (c .adds-up .ensures)
+
+pub contradicts-spec : {M : Type 1} → statement M
+contradicts-spec = tie.close (tie.spec adds-up-requires returns)

@@ -1,0 +1,146 @@
+// The layout as arrays.
+use crate::Bounds;
+use crate::Parts;
+use crate::section::alignment;
+use crate::section::section;
+use grid::STRIDE;
+ghost use Prim.Native.Nat.{ℕ, _+_, _*_, _-_, _≤_, _<_};
+ghost use mathlib.Core.Path.{_≡_};
+ghost use mathlib.Core.List.{_++_, List·Memᴰ, map};
+ghost use lib.ListN.{length, take, drop};
+ghost use Rattle.seq.specs.Lists.{sum};
+ghost use Rattle.grid.specs.Values.{Rect};
+ghost use Rattle.grid.specs.Answer.{over};
+ghost use Rattle.grid.specs.Arrays.{codeAt, rectsOf};
+ghost use Rattle.grid.specs.LayoutCall.{slotSpace};
+ghost use Rattle.entries.specs.Writing.{linesHeld, Rising, columnEntries, rowEntries, cellEntries, rangeEntries, allRanges, Inside, Numbered};
+
+// Each column's alignment and width.
+pub fn write_columns(
+    columns: Bounds,
+    glyphs: &[u8],
+    offsets: &[u16],
+    line: &[u8],
+    a: usize,
+    out: &mut [u16],
+)
+    requires { ⌜ Rising columns × (1 ≤ columns .count) × (2 * (columns .count - 1) ≤ length (now out)) ⌝ }
+    requires { ⌜ ((x : ℕ) → List·Memᴰ x (linesHeld columns) → x < 128) ⌝ }
+    requires { ⌜ (slotSpace ≤ length (now glyphs)) × (slotSpace ≤ length (now offsets)) × (a < 128) ⌝ }
+    ensures { λ _. ⌜ now (out .exit) ≡ over (columnEntries (now (glyphs .entry)) (now (offsets .entry)) (now (line .entry)) a (linesHeld columns)) (now (out .entry)) ⌝ }
+{
+    let mut k = 0;
+    while k + 1 < columns.count {
+        let from = columns.lines[k] as usize;
+        let to = columns.lines[k + 1] as usize;
+        out[2 * k] = alignment(glyphs, offsets, line, a, from);
+        out[2 * k + 1] = (to - from - 1) as u16;
+        k += 1;
+    }
+}
+
+// Each row's section, top and bottom.
+pub fn write_rows(rows: Bounds, p: Parts, out: &mut [u16])
+    requires { ⌜ Rising rows × (1 ≤ rows .count) × (3 * (rows .count - 1) ≤ length (now out)) ⌝ }
+    ensures { λ _. ⌜ now (out .exit) ≡ over (rowEntries p (linesHeld rows)) (now (out .entry)) ⌝ }
+{
+    let mut k = 0;
+    while k + 1 < rows.count {
+        let from = rows.lines[k];
+        out[3 * k] = section(p, from as usize);
+        out[3 * k + 1] = from as u16;
+        out[3 * k + 2] = rows.lines[k + 1] as u16;
+        k += 1;
+    }
+}
+
+// Each cell's row, column, colspan, rowspan and left column.
+pub fn write_cells(rects: &[u8], n: usize, rows: Bounds, columns: Bounds, out: &mut [u16])
+    requires { ⌜ (n ≤ 1024) × (4 * n ≤ length (now rects)) × (5 * n ≤ length (now out)) ⌝ }
+    requires { ⌜ (length (rows .index) ≡ 128) × (length (columns .index) ≡ 128) ⌝ }
+    requires { ⌜ ((r : Rect) → List·Memᴰ r (rectsOf n (now rects)) → Numbered rows columns r) ⌝ }
+    ensures { λ _. ⌜ now (out .exit) ≡ over (cellEntries (linesHeld rows) (linesHeld columns) (rectsOf n (now (rects .entry)))) (now (out .entry)) ⌝ }
+{
+    let mut k = 0;
+    while k < n {
+        let top = rects[4 * k] as usize;
+        let left = rects[4 * k + 1] as usize;
+        let bottom = rects[4 * k + 2] as usize;
+        let right = rects[4 * k + 3] as usize;
+        let row = rows.index[top];
+        let column = columns.index[left];
+        out[5 * k] = row as u16;
+        out[5 * k + 1] = column as u16;
+        out[5 * k + 2] = (columns.index[right] - column) as u16;
+        out[5 * k + 3] = (rows.index[bottom] - row) as u16;
+        out[5 * k + 4] = left as u16;
+        k += 1;
+    }
+}
+
+// The ranges of a cell on its inner lines, from entry `at` on.
+fn write_ranges_of(
+    offsets: &[u16],
+    top: usize,
+    left: usize,
+    bottom: usize,
+    right: usize,
+    at: usize,
+    out: &mut [u16],
+)
+    requires { ⌜ (top < bottom) × (bottom < 128) × (left < 128) × (right < 128) × (slotSpace ≤ length (now offsets)) ⌝ }
+    requires { ⌜ at + 2 * (bottom - top - 1) ≤ length (now out) ⌝ }
+    requires { ⌜ ((y : ℕ) → top < y → y < bottom → codeAt (now offsets) y left < 512) ⌝ }
+    ensures { λ _. ⌜ now (out .exit) ≡ take at (now (out .entry)) ++ rangeEntries (now (offsets .entry)) (record { top = top; left = left; bottom = bottom; right = right }) ++ drop (at + 2 * (bottom - top - 1)) (now (out .entry)) ⌝ }
+{
+    let mut y = top + 1;
+    let mut i = at;
+    while y < bottom {
+        out[i] = offsets[y * STRIDE + left] + 1;
+        out[i + 1] = offsets[y * STRIDE + right];
+        i += 2;
+        y += 1;
+    }
+}
+
+// The ranges of all cells.
+pub fn write_ranges(rects: &[u8], n: usize, offsets: &[u16], out: &mut [u16])
+    requires { ⌜ (n ≤ 1024) × (4 * n ≤ length (now rects)) × (slotSpace ≤ length (now offsets)) ⌝ }
+    requires { ⌜ ((r : Rect) → List·Memᴰ r (rectsOf n (now rects)) → Inside 128 128 r) ⌝ }
+    requires { ⌜ ((r : Rect) → List·Memᴰ r (rectsOf n (now rects)) → (y : ℕ) → r .top < y → y < r .bottom → codeAt (now offsets) y (r .left) < 512) ⌝ }
+    requires { ⌜ length (allRanges (now offsets) (rectsOf n (now rects))) ≤ length (now out) ⌝ }
+    ensures { λ _. ⌜ now (out .exit) ≡ over (allRanges (now (offsets .entry)) (rectsOf n (now (rects .entry)))) (now (out .entry)) ⌝ }
+{
+    let mut k = 0;
+    let mut at = 0;
+    while k < n {
+        let top = rects[4 * k] as usize;
+        let bottom = rects[4 * k + 2] as usize;
+        write_ranges_of(
+            offsets,
+            top,
+            rects[4 * k + 1] as usize,
+            bottom,
+            rects[4 * k + 3] as usize,
+            at,
+            out,
+        );
+        at += 2 * (bottom - top - 1);
+        k += 1;
+    }
+}
+
+// How many ranges the cells have.
+pub fn count_ranges(rects: &[u8], n: usize) -> usize
+    requires { ⌜ (n ≤ 1024) × (4 * n ≤ length (now rects)) ⌝ }
+    requires { ⌜ ((r : Rect) → List·Memᴰ r (rectsOf n (now rects)) → Inside 128 128 r) ⌝ }
+    ensures { λ r. ⌜ r ≡ sum (map (λ (q : Rect). q .bottom - q .top - 1) (rectsOf n (now (rects .entry)))) ⌝ }
+{
+    let mut count = 0;
+    let mut k = 0;
+    while k < n {
+        count += rects[4 * k + 2] as usize - rects[4 * k] as usize - 1;
+        k += 1;
+    }
+    count
+}

@@ -1,0 +1,42 @@
+-- Laws of lines back to back in a text.
+-- Assumes nothing.
+use Prim.Native.Nat.{ℕ, suc, _≤_}
+use mathlib.Core.Path.{_≡_, refl, ap}
+use mathlib.Core.Bool.{_||_}
+use mathlib.Core.List.{List, [], _∷_, map}
+use native.Mathlib.Omega.{arith}
+use lib.Dec.{ltb}
+use lib.ListN.{length, drop, length-drop}
+use lib.Seq.{length-take-le}
+use Rattle.seq.specs.Lists.{sum, any}
+use Rattle.grid.specs.Values.{Line}
+use Rattle.grid.specs.Limits.{maxLineBytes, maxOrigin}
+use Rattle.grid.specs.Flat.{splitText, linesWith, linesFrom}
+use Rattle.grid.specs.Read.{lineTooLarge}
+use Rattle.seq.proofs.Walks.{or-middle}
+
+pub length-lines : (lengths columns text : List ℕ) → length (linesFrom lengths columns text) ≡ length lengths
+unfolding splitText linesWith
+length-lines [] columns text = refl
+length-lines (n ∷ ns) columns text = ap suc (length-lines ns (drop 1 columns) (drop n text))
+
+-- the lines of a text that is long enough have these lengths
+pub lengths-lines : (lengths columns text : List ℕ) → sum lengths ≤ length text
+    → map (λ (line : Line). length (line .text)) (linesFrom lengths columns text) ≡ lengths
+unfolding splitText linesWith sum
+lengths-lines [] columns text h = refl
+lengths-lines (n ∷ ns) columns text h =
+    let later = lengths-lines ns (drop 1 columns) (drop n text) (omega (arith, length-drop n text)) in
+    rw (length-take-le n text (omega arith), later)
+
+-- a limit on lines is a limit on their lengths and one on their columns
+pub any-line-too-large : (lengths columns text : List ℕ) → length columns ≡ length lengths → sum lengths ≤ length text
+    → any lineTooLarge (linesFrom lengths columns text) ≡ any (λ n. ltb maxLineBytes n) lengths || any (λ n. ltb maxOrigin n) columns
+unfolding splitText linesWith sum any
+any-line-too-large [] [] text e h = refl
+any-line-too-large [] (c ∷ cs) text e h = absurd (omega arith)
+any-line-too-large (n ∷ ns) [] text e h = absurd (omega arith)
+any-line-too-large (n ∷ ns) (c ∷ cs) text e h =
+    let later = any-line-too-large ns cs (drop n text) (omega arith) (omega (arith, length-drop n text)) in
+    rw (length-take-le n text (omega arith), later)
+    (or-middle (ltb maxLineBytes n) (ltb maxOrigin c) (any (λ n. ltb maxLineBytes n) ns) (any (λ n. ltb maxOrigin n) cs))

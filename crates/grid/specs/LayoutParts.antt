@@ -1,0 +1,40 @@
+-- The layout call in three parts, as the code takes them: the checks up to the width, the slots with tracing, and the layout with 12.
+use Prim.Native.Nat.{ℕ}
+use mathlib.Core.List.{List}
+use lib.ListN.{length}
+use lib.Dec.{ltb}
+use Rattle.seq.specs.Lists.{isEmpty}
+use Rattle.grid.specs.Answer.{Answer, accept, refuseIf, refuseAt, andThen, afterwards}
+use Rattle.grid.specs.Limits.{maxWidth}
+use Rattle.grid.specs.Values.{Line, Rect, Layout}
+use Rattle.grid.specs.Slots.{Grid, gridOf, trimmedAt}
+use Rattle.grid.specs.Trace.{trace}
+use Rattle.grid.specs.Layout.{layoutOf}
+use Rattle.grid.specs.Read.{drawingTooLarge, outsideSet, noRule, wrongWidth, rectangles}
+use Rattle.grid.specs.Flat.{FlatDrawing, drawingContradicts, linesOf}
+use Rattle.grid.specs.LayoutCall.{LayoutSizes, LayoutArrays, layoutArrays, layoutSizes, layoutShort, layoutOver}
+
+-- the checks up to the width
+unfoldable pub widthAnswer : FlatDrawing → Answer ℕ
+widthAnswer d =
+    refuseIf (drawingContradicts d) 13
+    (refuseIf (isEmpty (linesOf d)) 1
+    (refuseIf (drawingTooLarge (linesOf d)) 2
+    (refuseAt (outsideSet (linesOf d)) 3
+    (refuseIf (noRule (linesOf d)) 4
+    (refuseIf (ltb maxWidth (length (trimmedAt (linesOf d) 0))) 2 (accept (length (trimmedAt (linesOf d) 0))))))))
+
+-- the checks of the slots and of tracing
+unfoldable pub gridAnswer : Grid → Answer (List Rect)
+gridAnswer g = refuseAt (wrongWidth g) 5 (rectangles (trace g))
+
+-- 12, and the layout
+unfoldable pub finishAnswer : List Line → List Rect → LayoutArrays → Answer Layout
+finishAnswer lines rs out =
+    refuseIf (layoutShort out (layoutArrays (layoutOf lines (gridOf lines) rs))) 12 (accept (layoutOf lines (gridOf lines) rs))
+
+unfoldable pub finishSizes : List Line → List Rect → LayoutArrays → Answer LayoutSizes
+finishSizes lines rs out = andThen (finishAnswer lines rs out) (λ l. accept (layoutSizes lines l))
+
+unfoldable pub finishArrays : List Line → List Rect → LayoutArrays → LayoutArrays
+finishArrays lines rs out = afterwards (finishAnswer lines rs out) (λ l. layoutOver (layoutArrays l) out) out

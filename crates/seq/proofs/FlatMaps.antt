@@ -1,0 +1,44 @@
+-- Laws of flatMap: lists end to end.
+-- Assumes nothing.
+use Prim.Native.Nat.{ℕ, _+_, _*_}
+use mathlib.Core.Path.{_≡_, refl, sym, ap, _∙_}
+use mathlib.Core.List.{List, [], _∷_, _++_, map, flatMap, append-assoc, List·Memᴰ, List·Memᴰ·head, List·Memᴰ·tail}
+use native.Mathlib.Nat.{mul-suc}
+use native.Mathlib.Omega.{arith}
+use lib.ListN.{length, length-append}
+use Rattle.seq.specs.Lists.{sum}
+
+module _ {A B : Type 0} where
+  -- two functions that agree on the list's members
+  pub flatMap-same : (f g : A → List B) (l : List A) → ((a : A) → List·Memᴰ a l → f a ≡ g a) → flatMap f l ≡ flatMap g l
+  unfolding flatMap
+  flatMap-same f g [] h = refl
+  flatMap-same f g (a ∷ l) h = rw (h a (List·Memᴰ·head refl), flatMap-same f g l (λ b m. h b (List·Memᴰ·tail m)))
+
+  -- where each gives k, the whole has k for each
+  pub length-flatMap : (k : ℕ) (f : A → List B) (l : List A) → ((a : A) → length (f a) ≡ k) → length (flatMap f l) ≡ k * length l
+  unfolding flatMap
+  length-flatMap k f [] h = omega arith
+  length-flatMap k f (a ∷ l) h = omega (arith, mul-suc k (length l), length-append (f a) (flatMap f l), h a, length-flatMap k f l h)
+
+  -- the lengths add up
+  pub length-flatMap-sum : (f : A → List B) (l : List A) → length (flatMap f l) ≡ sum (map (λ a. length (f a)) l)
+  unfolding flatMap sum
+  length-flatMap-sum f [] = refl
+  length-flatMap-sum f (a ∷ l) = rw (length-append, length-flatMap-sum f l)
+
+  pub flatMap-append : (f : A → List B) (k l : List A) → flatMap f (k ++ l) ≡ flatMap f k ++ flatMap f l
+  unfolding flatMap
+  flatMap-append f [] l = refl
+  flatMap-append f (a ∷ k) l = rw (flatMap-append f k l, append-assoc)
+
+module _ {A B C : Type 0} where
+  pub flatMap-map : (f : B → List C) (g : A → B) (l : List A) → flatMap f (map g l) ≡ flatMap (λ a. f (g a)) l
+  unfolding flatMap
+  flatMap-map f g [] = refl
+  flatMap-map f g (a ∷ l) = rw (flatMap-map f g l)
+
+  pub flatMap-flatMap : (f : B → List C) (g : A → List B) (l : List A) → flatMap f (flatMap g l) ≡ flatMap (λ a. flatMap f (g a)) l
+  unfolding flatMap
+  flatMap-flatMap f g [] = refl
+  flatMap-flatMap f g (a ∷ l) = flatMap-append f (g a) (flatMap g l) ∙ rw (flatMap-flatMap f g l)

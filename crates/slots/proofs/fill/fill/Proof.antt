@@ -1,0 +1,107 @@
+-- `slots::fill::fill` meets its contract: the invariant: the lines before y are written, each of the width.
+-- Assumes nothing.
+use Prim.Native.Nat.{_-_}
+use borrow.Author.Needs.{needs}
+use lib.ListN.{length}
+use Rattle.slots.proofs.SheetLaws.{SheetSoFar, sheet-starts, short-fits, near-fits, line-inside, line-fits, next-room, sheet-next, sheet-wrong, sheet-done}
+use Rattle.slots.proofs.fill.fill.Statement.{statement}
+use Rattle.slots.proofs.fill.fill.Tie as tie
+
+abbrev Inv-loop : tie.InvT-loop
+Inv-loop lengths columns text width glyphs₀ offsets₀ separators₀ at₀ y₀ glyphs offsets separators at y =
+    SheetSoFar lengths columns text width glyphs₀ offsets₀ glyphs offsets separators at y
+
+abbrev μ-loop : tie.MeasureT-loop
+μ-loop lengths columns text width glyphs₀ offsets₀ separators₀ at₀ y₀ glyphs offsets separators at y =
+    length lengths - y
+
+loop-holds : tie.Need-loop-holds Inv-loop μ-loop
+loop-holds c = search (needs, sheet-starts)
+
+mul-end : tie.Need-mul-end Inv-loop μ-loop
+mul-end c = search needs
+
+shared-slice-read-end : tie.Need-shared-slice-read-end Inv-loop μ-loop
+shared-slice-read-end c = search needs
+
+cast-end : tie.Need-cast-end Inv-loop μ-loop
+cast-end c = search (needs, short-fits)
+
+add-end : tie.Need-add-end Inv-loop μ-loop
+add-end c = search (needs, line-fits)
+
+mul-t14 : tie.Need-mul-t14 Inv-loop μ-loop
+mul-t14 c = search needs
+
+shared-slice-read-t17 : tie.Need-shared-slice-read-t17 Inv-loop μ-loop
+shared-slice-read-t17 c = search needs
+
+cast-t18 : tie.Need-cast-t18 Inv-loop μ-loop
+cast-t18 c = search (needs, near-fits)
+
+sub-fill-next : tie.Need-sub-fill-next Inv-loop μ-loop
+sub-fill-next c = search needs
+
+part-fill-next-start : tie.Need-part-fill-next-start Inv-loop μ-loop
+part-fill-next-start c = search needs
+
+part-fill-next-end : tie.Need-part-fill-next-end Inv-loop μ-loop
+part-fill-next-end c = search (needs, line-inside)
+
+fill-next-requires : tie.Need-fill-next-requires Inv-loop μ-loop
+fill-next-requires c κs = search (needs, next-room)
+
+same-length : tie.Need-same-length Inv-loop μ-loop
+same-length c = search needs
+
+same-length-2 : tie.Need-same-length-2 Inv-loop μ-loop
+same-length-2 c = search needs
+
+returns : tie.Need-returns Inv-loop μ-loop
+returns c = search (needs, sheet-wrong)
+
+add-y : tie.Need-add-y Inv-loop μ-loop
+add-y c = search needs
+
+loop-less : tie.Need-loop-less Inv-loop μ-loop
+loop-less c = search needs
+
+loop-again : tie.Need-loop-again Inv-loop μ-loop
+loop-again c = search (needs, sheet-next)
+
+same-length-3 : tie.Need-same-length-3 Inv-loop μ-loop
+same-length-3 c = search needs
+
+same-length-4 : tie.Need-same-length-4 Inv-loop μ-loop
+same-length-4 c = search needs
+
+returns-2 : tie.Need-returns-2 Inv-loop μ-loop
+returns-2 c = search (needs, sheet-done)
+
+pub fill-spec : {M : Type 1} → statement M
+fill-spec =
+    tie.close
+    (tie.spec
+    Inv-loop
+    μ-loop
+    loop-holds
+    mul-end
+    shared-slice-read-end
+    cast-end
+    add-end
+    mul-t14
+    shared-slice-read-t17
+    cast-t18
+    sub-fill-next
+    part-fill-next-start
+    part-fill-next-end
+    fill-next-requires
+    same-length
+    same-length-2
+    returns
+    add-y
+    loop-less
+    loop-again
+    same-length-3
+    same-length-4
+    returns-2)

@@ -1,0 +1,76 @@
+-- What filling the slots of a drawing leaves.
+use Prim.Native.Nat.{ℕ, _+_, _*_, _≤_, _<_}
+use mathlib.Core.Path.{_≡_}
+use mathlib.Core.Bool.{Bool, true, false, _&&_, _||_, cond}
+use mathlib.Core.List.{List, [], _∷_, _++_}
+use mathlib.Core.Option.{none, some}
+use lib.ListN.{length, take, drop, getD}
+use lib.Dec.{eqb, ltb}
+use Rattle.seq.specs.Lists.{sum}
+use Rattle.grid.specs.Values.{Line}
+use Rattle.text.specs.Rule.{isRule}
+use Rattle.text.specs.Trim.{trimEnd}
+use Rattle.grid.specs.Slots.{Slot, Grid, equals, lineSlots}
+use Rattle.grid.specs.Read.{wrongWidth}
+use Rattle.grid.specs.Flat.{splitText, linesWith}
+use Rattle.grid.specs.Arrays.{glyphCodes, slotBytes, Holds}
+use Rattle.slots.specs.declared.Separators.{Separators}
+use Rattle.slots.specs.declared.Filled.{Filled}
+
+-- an array with n entries from `at` on replaced
+abbrev pub replaced : List ℕ → ℕ → List ℕ → List ℕ
+replaced array at entries = take at array ++ entries ++ drop (at + length entries) array
+
+-- one line's slots
+pub record LineFilled (slots : List Slot) (at width : ℕ) (glyphs offsets glyphs′ offsets′ : List ℕ) (full : Bool) : Type 0 where
+  pub glyphsKept : length glyphs′ ≡ length glyphs
+  pub offsetsKept : length offsets′ ≡ length offsets
+  pub answer : full ≡ eqb (length slots) width
+  pub glyphsHold : full ≡ true → glyphs′ ≡ replaced glyphs at (glyphCodes slots)
+  pub offsetsHold : full ≡ true → offsets′ ≡ replaced offsets at (slotBytes slots)
+
+-- arrays that agree, within the limits
+pub record Sheet (lengths columns text : List ℕ) : Type 0 where
+  pub columnsAgree : length columns ≡ length lengths
+  pub bytesAgree : sum lengths ≡ length text
+  pub fewLines : length lengths ≤ 128
+  pub shortLines : (y : ℕ) → getD lengths y 0 ≤ 512
+  pub nearColumns : (y : ℕ) → getD columns y 0 ≤ 255
+
+-- the separators that an array holds
+abbrev pub separatorLines : Separators → List ℕ
+separatorLines s = take (s .count) (s .lines)
+
+-- "each later line that is an `=` rule (a part separator)"
+abbrev pub separates : ℕ → List ℕ → Bool
+separates y text = ltb 0 y && isRule equals (trimEnd text)
+
+-- line y, within the limits, with room in the arrays for its slots and its separator
+pub record NextRoom (text : List ℕ) (column y width : ℕ) (separators : Separators) (glyphs offsets : List ℕ) : Type 0 where
+  pub nearColumn : column ≤ 255
+  pub shortLine : length text ≤ 512
+  pub narrow : width ≤ 128
+  pub fewLines : y < 128
+  pub glyphRoom : y * 128 + width ≤ length glyphs
+  pub offsetRoom : y * 128 + width ≤ length offsets
+  pub fewSeparators : separators .count < 128
+  pub separatorsRoom : length (separators .lines) ≡ 128
+
+-- line y's slots, and its separator noted
+pub record NextFilled (text : List ℕ) (column y width : ℕ) (separators : Separators) (glyphs offsets glyphs′ offsets′ : List ℕ) (r : Filled) : Type 0 where
+  pub line : LineFilled (lineSlots (eqb y 0 || separates y text) (record { text = text; column = column })) (y * 128) width glyphs offsets glyphs′ offsets′ (r .full)
+  pub placed : r .place ≡ y
+  pub fewSeparators : r .separators .count ≤ separators .count + 1
+  pub separatorsRoom : length (r .separators .lines) ≡ 128
+  pub noted : separatorLines (r .separators) ≡ separatorLines separators ++ cond (separates y text) (y ∷ []) []
+
+-- all lines' slots, of the grid g
+pub record AllFilled (g : Grid) (glyphs offsets glyphs′ offsets′ : List ℕ) (r : Filled) : Type 0 where
+  pub glyphsKept : length glyphs′ ≡ length glyphs
+  pub offsetsKept : length offsets′ ≡ length offsets
+  pub wrong : r .full ≡ false → wrongWidth g ≡ some (r .place)
+  pub right : r .full ≡ true → wrongWidth g ≡ none
+  pub holds : r .full ≡ true → Holds (g .rows) (g .width) glyphs′ offsets′
+  pub fewSeparators : r .separators .count ≤ 128
+  pub separatorsRoom : length (r .separators .lines) ≡ 128
+  pub separated : r .full ≡ true → separatorLines (r .separators) ≡ g .separators

@@ -49,7 +49,7 @@ module _ (limit : ℕ) (numbers : List ℕ) (i : ℕ) (passed : anyOver limit nu
 
 -- ---- a drawing's limits
 module _ (lengths columns text : List ℕ) (agree : Agree lengths columns text) where
-  limits-apart : drawingTooLarge (linesFrom lengths columns text)
+  pub limits-apart : drawingTooLarge (linesFrom lengths columns text)
       ≡ ltb maxLines (length lengths) || (anyOver maxLineBytes lengths || anyOver maxOrigin columns) || ltb maxBytes (length text)
   unfolding drawingTooLarge anyOver
   limits-apart =

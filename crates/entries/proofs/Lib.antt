@@ -3,3 +3,4 @@ pub mod EdgeLaws
 pub mod PartLaws
 pub mod WriteLaws
 pub mod AgreeLaws
+pub mod TracedLaws

@@ -9,7 +9,7 @@ use native.Mathlib.Nat.{zero-add}
 use native.Mathlib.Numerals.{add-one}
 use lib.Dec.{ltb}
 use lib.ListN.{length, take, drop, getD, set}
-use lib.Seq.{take-all, getD-take, length-take-le}
+use lib.Seq.{sets-eq, take-all, getD-take, length-take-le}
 use borrow.Author.Tests.{ltb-true, ltb-false}
 use mir.Syntax.{w16, w64}
 use mir.Val.{Fits}
@@ -156,6 +156,14 @@ module _ (rects : List ℕ) (n k : ℕ) (all : AllInside rects n) (h : k < n) wh
   right-small = within .wide
 
 -- ---- cells
+pub cell-stored : (a b c d e at : ℕ) (out : List ℕ) → at + 5 ≤ length out
+    → set (set (set (set (set out at a) (at + 1) b) (at + 2) c) (at + 3) d) (at + 4) e ≡ take at out ++ (a ∷ b ∷ c ∷ d ∷ e ∷ []) ++ drop (at + 5) out
+cell-stored a b c d e at out h =
+    let two : at + 2 ≡ suc (suc at) = omega arith in
+    let three : at + 3 ≡ suc (suc (suc at)) = omega arith in
+    let four : at + 4 ≡ suc (suc (suc (suc at))) = omega arith in
+    rw (two, three, four, add-one at) (sets-eq (a ∷ b ∷ c ∷ d ∷ e ∷ []) out at h)
+
 index-grows : (lines : List ℕ) (x y : ℕ) → x ≤ y → indexOf lines x ≤ indexOf lines y
 unfolding indexOf select
 index-grows [] x y h = omega arith
@@ -188,24 +196,29 @@ module _ (rects : List ℕ) (n : ℕ) (rows columns : Bounds) (buffer out : List
     pub columns-ordered : getD (columns .index) (getD rects (4 * k + 1) 0) 0 ≤ getD (columns .index) (getD rects (4 * k + 3) 0) 0
     columns-ordered = rw (here .leftNumber, here .rightNumber) (index-grows (linesHeld columns) (getD rects (4 * k + 1) 0) (getD rects (4 * k + 3) 0) (omega (arith, here .inside .across)))
 
-    pub cell-next : 5 * n ≤ length buffer
-        → CellsWritten rects n rows columns buffer (k + 1)
-        (set (set (set (set (set out (5 * k) (getD (rows .index) (getD rects (4 * k) 0) 0)) (5 * k + 1) (getD (columns .index) (getD rects (4 * k + 1) 0) 0))
-        (5 * k + 2) (getD (columns .index) (getD rects (4 * k + 3) 0) 0 - getD (columns .index) (getD rects (4 * k + 1) 0) 0))
-        (5 * k + 3) (getD (rows .index) (getD rects (4 * k + 2) 0) 0 - getD (rows .index) (getD rects (4 * k) 0) 0)) (5 * k + 4) (getD rects (4 * k + 1) 0))
-    cell-next room =
-        let two : 5 * k + 2 ≡ suc (suc (5 * k)) = omega arith in
-        let three : 5 * k + 3 ≡ suc (suc (suc (5 * k))) = omega arith in
-        let four : 5 * k + 4 ≡ suc (suc (suc (suc (5 * k)))) = omega arith in
-        let step =
-        write-sets (cellEntry (linesHeld rows) (linesHeld columns)) (rectsOf n rects) 0 buffer out k noRect (rw length-rects h) (w .entries) 5 (λ b. refl)
-        (rw length-rects (omega arith)) in
+    pub cell-room : 5 * n ≤ length buffer → 5 * k + 5 ≤ length out
+    cell-room room = omega (arith, w .entries .kept)
+
+    pub cell-next : (out′ : List ℕ) → 5 * n ≤ length buffer
+        → out′ ≡ take (5 * k) out
+        ++ (getD (rows .index) (getD rects (4 * k) 0) 0
+        ∷ getD (columns .index) (getD rects (4 * k + 1) 0) 0
+        ∷ (getD (columns .index) (getD rects (4 * k + 3) 0) 0 - getD (columns .index) (getD rects (4 * k + 1) 0) 0)
+        ∷ (getD (rows .index) (getD rects (4 * k + 2) 0) 0 - getD (rows .index) (getD rects (4 * k) 0) 0)
+        ∷ getD rects (4 * k + 1) 0 ∷ [])
+        ++ drop (5 * k + 5) out
+        → CellsWritten rects n rows columns buffer (k + 1) out′
+    cell-next out′ room e =
+        let before : length (flatMap (cellEntry (linesHeld rows) (linesHeld columns)) (take k (rectsOf n rects))) ≡ 5 * k =
+        length-all (cellEntry (linesHeld rows) (linesHeld columns)) 5 (λ r. refl) (take k (rectsOf n rects))
+        ∙ rw (length-take-le k (rectsOf n rects) (rw length-rects (omega arith))) in
         record {
           inside = w .inside;
           numbered = w .numbered;
           entries =
-              rw (here .topNumber, here .bottomNumber, here .leftNumber, here .rightNumber, two, three, four, add-one (5 * k))
-              (rw (getD-rects n k rects noRect h, zero-add) at step);
+              write-more (cellEntry (linesHeld rows) (linesHeld columns)) (rectsOf n rects) 0 buffer out k noRect (rw length-rects h) (w .entries) (5 * k) out′
+              (rw (before, zero-add)) (omega arith)
+              (rw (getD-rects n k rects noRect h) (rw (here .topNumber, here .bottomNumber, here .leftNumber, here .rightNumber) at e));
         }
 
   pub cells-done : n ≤ k → out ≡ over (cellEntries (linesHeld rows) (linesHeld columns) (rectsOf n rects)) buffer
@@ -247,9 +260,10 @@ module _ (offsets : List ℕ) (top left bottom right at : ℕ) (buffer : List �
         all-written entry (range (top + 1) (bottom - top - 1)) at buffer out (y - top - 1) (rw length-range (omega arith)) (w .entries)
         ∙ rw (length-ranges offsets (record { top = top; left = left; bottom = bottom; right = right }))
 
-pub start-fits : (offsets : List ℕ) (top left bottom y : ℕ) → ((y : ℕ) → top < y → y < bottom → codeAt offsets y left < 512) → top < y → y < bottom
-    → Fits w16 (getD offsets (y * 128 + left) 0 + 1)
-start-fits offsets top left bottom y small low high = record { fits = omega (arith, small y low high) }
+-- a byte of a line and one more at most
+pub start-fits : (offsets : List ℕ) (top left bottom y more : ℕ) → ((y : ℕ) → top < y → y < bottom → codeAt offsets y left < 512) → top < y → y < bottom
+    → more ≤ 1 → Fits w16 (getD offsets (y * 128 + left) 0 + more)
+start-fits offsets top left bottom y more small low high one = record { fits = omega (arith, small y low high) }
 
 -- ---- the ranges of all cells
 pub record AllWritten (rects : List ℕ) (n : ℕ) (offsets buffer : List ℕ) (k at : ℕ) (out : List ℕ) : Type 0 where

@@ -54,13 +54,14 @@ fn segment_alignment(segment: &[u8]) -> u16
     if n == 0 {
         return 0;
     }
+    let last = segment[n - 1];
     if segment[0] == b':' {
-        if segment[n - 1] == b':' {
+        if last == b':' {
             return 3;
         }
         return 1;
     }
-    if segment[n - 1] == b':' {
+    if last == b':' {
         return 2;
     }
     0

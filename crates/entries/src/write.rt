@@ -6,7 +6,7 @@ use crate::section::section;
 use grid::STRIDE;
 ghost use Prim.Native.Nat.{ℕ, _+_, _*_, _-_, _≤_, _<_};
 ghost use mathlib.Core.Path.{_≡_};
-ghost use mathlib.Core.List.{_++_, List·Memᴰ, map};
+ghost use mathlib.Core.List.{[], _∷_, _++_, List·Memᴰ, map};
 ghost use lib.ListN.{length, take, drop};
 ghost use Rattle.seq.specs.Lists.{sum};
 ghost use Rattle.grid.specs.Values.{Rect};
@@ -54,6 +54,26 @@ pub fn write_rows(rows: Bounds, p: Parts, out: &mut [u16])
     }
 }
 
+// One cell's entries, from entry `at` on.
+fn write_cell(
+    row: u16,
+    column: u16,
+    colspan: u16,
+    rowspan: u16,
+    left: u16,
+    at: usize,
+    out: &mut [u16],
+)
+    requires { ⌜ at + 5 ≤ length (now out) ⌝ }
+    ensures { λ _. ⌜ now (out .exit) ≡ take at (now (out .entry)) ++ (row ∷ column ∷ colspan ∷ rowspan ∷ left ∷ []) ++ drop (at + 5) (now (out .entry)) ⌝ }
+{
+    out[at] = row;
+    out[at + 1] = column;
+    out[at + 2] = colspan;
+    out[at + 3] = rowspan;
+    out[at + 4] = left;
+}
+
 // Each cell's row, column, colspan, rowspan and left column.
 pub fn write_cells(rects: &[u8], n: usize, rows: Bounds, columns: Bounds, out: &mut [u16])
     requires { ⌜ (n ≤ 1024) × (4 * n ≤ length (now rects)) × (5 * n ≤ length (now out)) ⌝ }
@@ -69,11 +89,15 @@ pub fn write_cells(rects: &[u8], n: usize, rows: Bounds, columns: Bounds, out: &
         let right = rects[4 * k + 3] as usize;
         let row = rows.index[top];
         let column = columns.index[left];
-        out[5 * k] = row as u16;
-        out[5 * k + 1] = column as u16;
-        out[5 * k + 2] = (columns.index[right] - column) as u16;
-        out[5 * k + 3] = (rows.index[bottom] - row) as u16;
-        out[5 * k + 4] = left as u16;
+        write_cell(
+            row as u16,
+            column as u16,
+            (columns.index[right] - column) as u16,
+            (rows.index[bottom] - row) as u16,
+            left as u16,
+            5 * k,
+            out,
+        );
         k += 1;
     }
 }

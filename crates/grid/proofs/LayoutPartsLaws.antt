@@ -11,12 +11,13 @@ use Rattle.seq.specs.Lists.{isEmpty}
 use Rattle.grid.specs.Answer.{Answer, accept, refuse, refuseIf, refuseAt, andThen, afterwards}
 use Rattle.grid.specs.Limits.{maxWidth}
 use Rattle.grid.specs.Values.{Rect, Layout}
-use Rattle.grid.specs.Slots.{gridOf, trimmedAt}
-use Rattle.grid.specs.Trace.{trace}
+use Rattle.grid.specs.Slots.{Grid, gridOf, trimmedAt}
+use Rattle.grid.specs.Trace.{covered, trace}
 use Rattle.grid.specs.Layout.{layoutOf}
 use Rattle.grid.specs.Read.{drawingTooLarge, outsideSet, noRule, wrongWidth, rectangles, readGrid, readRects, readLayout}
 use Rattle.grid.specs.Flat.{FlatDrawing, drawingContradicts, linesOf}
 use Rattle.grid.specs.LayoutCall.{LayoutSpace, LayoutArrays, spaceShort, layoutArrays, layoutShort, layoutOver, layoutSizes, layoutAccepts, layoutAnswer, layoutAfterwards}
+use Rattle.grid.proofs.ReadLaws.{passed-at, traced-rectangles}
 use Rattle.grid.specs.LayoutParts.{widthAnswer, gridAnswer, finishAnswer, finishSizes, finishArrays}
 
 -- a chain of checks, taken in parts
@@ -97,3 +98,10 @@ module _ (w : LayoutSpace) (d : FlatDrawing) (out : LayoutArrays) where
         pub traced-arrays : finishArrays (linesOf d) rs out ≡ layoutAfterwards w d out
         unfolding finishArrays layoutAfterwards
         traced-arrays = rw (by-grid, f)
+
+-- what the slots and tracing have passed
+pub grid-accepted : (g : Grid) (rs : List Rect) → gridAnswer g ≡ accept rs → (wrongWidth g ≡ none) × (trace g ≡ covered rs)
+unfolding gridAnswer
+grid-accepted g rs e =
+    let p = passed-at (wrongWidth g) 5 (rectangles (trace g)) rs e in
+    (p .0, traced-rectangles (trace g) rs (p .1))

@@ -15,3 +15,5 @@ pub mod SlotLaws
 pub mod LayoutPartsLaws
 pub mod EntryLaws
 pub mod FlatLaws
+pub mod ByteLaws
+pub mod SizeLaws

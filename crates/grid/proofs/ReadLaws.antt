@@ -26,7 +26,7 @@ module _ {A : Type 0} where
   passed-at none number next a e = (refl, e)
   passed-at (some place) number next a e = absurd (let z : _≡_ {A = ℕ} 0 1 = cc in omega arith)
 
-traced-rectangles : (t : Traced) (rs : List Rect) → rectangles t ≡ accept rs → t ≡ covered rs
+pub traced-rectangles : (t : Traced) (rs : List Rect) → rectangles t ≡ accept rs → t ≡ covered rs
 traced-rectangles (covered qs) rs e = cc
 traced-rectangles (stopped number) rs e = absurd (let z : _≡_ {A = ℕ} 0 1 = cc in omega arith)
 

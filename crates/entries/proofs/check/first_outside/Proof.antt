@@ -25,10 +25,10 @@ loop-holds : tie.Need-loop-holds Inv-loop μ-loop
 loop-holds c = search needs
 
 mul-end : tie.Need-mul-end Inv-loop μ-loop
-mul-end c = search needs
+mul-end c = omega arith
 
 shared-slice-read-end : tie.Need-shared-slice-read-end Inv-loop μ-loop
-shared-slice-read-end c = search needs
+shared-slice-read-end c = omega arith
 
 cast-end : tie.Need-cast-end Inv-loop μ-loop
 cast-end c = fits-16-64 (c .shared-slice-known3 .given _)
@@ -37,10 +37,10 @@ add-end : tie.Need-add-end Inv-loop μ-loop
 add-end c = omega (arith, sum-step (c .before .before .before .before .before .args .lengths .now) (c .before .before .loop .y))
 
 sub-well-formed : tie.Need-sub-well-formed Inv-loop μ-loop
-sub-well-formed c = search needs
+sub-well-formed c = omega arith
 
 part-well-formed-start : tie.Need-part-well-formed-start Inv-loop μ-loop
-part-well-formed-start c = search needs
+part-well-formed-start c = omega arith
 
 part-well-formed-end : tie.Need-part-well-formed-end Inv-loop μ-loop
 part-well-formed-end c = search (needs, line-end)
@@ -52,10 +52,10 @@ returns : tie.Need-returns Inv-loop μ-loop
 returns c = search (needs, outside-here)
 
 add-y : tie.Need-add-y Inv-loop μ-loop
-add-y c = search needs
+add-y c = omega arith
 
 loop-less : tie.Need-loop-less Inv-loop μ-loop
-loop-less c = search needs
+loop-less c = omega arith
 
 loop-again : tie.Need-loop-again Inv-loop μ-loop
 loop-again c = search (needs, line-passed, inside-here)

@@ -4,6 +4,7 @@ use Prim.Native.Nat.{_-_, _≤_}
 use mathlib.Core.Logic.{⊎-elim}
 use Rattle.entries.specs.Edges.{markedBelow, Collected}
 use Rattle.entries.proofs.EdgeLaws.{none-collected, collect-line, collect-none, all-collected}
+use native.Mathlib.Omega.{arith}
 use borrow.Author.Needs.{needs}
 use Rattle.entries.proofs.lines.collect.Statement.{statement}
 use Rattle.entries.proofs.lines.collect.Tie as tie
@@ -33,13 +34,13 @@ array-write-lines : tie.Need-array-write-lines Inv-loop μ-loop
 array-write-lines c = search needs
 
 add-count : tie.Need-add-count Inv-loop μ-loop
-add-count c = search needs
+add-count c = omega arith
 
 add-x : tie.Need-add-x Inv-loop μ-loop
-add-x c = search needs
+add-x c = omega arith
 
 loop-less : tie.Need-loop-less Inv-loop μ-loop
-loop-less c = search needs
+loop-less c = omega arith
 
 loop-again : tie.Need-loop-again Inv-loop μ-loop
 loop-again c = ⊎-elim (λ w. search (needs, collect-line)) (λ w. search (needs, collect-none)) (c .if1 .came)

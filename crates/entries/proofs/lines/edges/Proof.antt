@@ -4,6 +4,7 @@ use Prim.Native.Nat.{_-_, _≤_}
 use Rattle.entries.specs.Edges.{edgeList, Marks}
 use mir.Facts.{fits-8-64}
 use Rattle.entries.proofs.EdgeLaws.{no-marks, first-small, second-small, mark-more, all-marked}
+use native.Mathlib.Omega.{arith}
 use borrow.Author.Needs.{needs}
 use Rattle.entries.proofs.lines.edges.Statement.{statement}
 use Rattle.entries.proofs.lines.edges.Tie as tie
@@ -18,22 +19,22 @@ loop-holds : tie.Need-loop-holds Inv-loop μ-loop
 loop-holds c = search (needs, no-marks)
 
 mul-at : tie.Need-mul-at Inv-loop μ-loop
-mul-at c = search needs
+mul-at c = omega arith
 
 add-at : tie.Need-add-at Inv-loop μ-loop
-add-at c = search needs
+add-at c = omega arith
 
 shared-slice-read-first : tie.Need-shared-slice-read-first Inv-loop μ-loop
-shared-slice-read-first c = search needs
+shared-slice-read-first c = omega arith
 
 cast-first : tie.Need-cast-first Inv-loop μ-loop
 cast-first c = fits-8-64 (c .shared-slice-known .given _)
 
 add-second : tie.Need-add-second Inv-loop μ-loop
-add-second c = search needs
+add-second c = omega arith
 
 shared-slice-read-second : tie.Need-shared-slice-read-second Inv-loop μ-loop
-shared-slice-read-second c = search needs
+shared-slice-read-second c = omega arith
 
 cast-second : tie.Need-cast-second Inv-loop μ-loop
 cast-second c = fits-8-64 (c .shared-slice-known2 .given _)
@@ -45,10 +46,10 @@ array-write-marks-2 : tie.Need-array-write-marks-2 Inv-loop μ-loop
 array-write-marks-2 c = search (needs, second-small)
 
 add-k : tie.Need-add-k Inv-loop μ-loop
-add-k c = search needs
+add-k c = omega arith
 
 loop-less : tie.Need-loop-less Inv-loop μ-loop
-loop-less c = search needs
+loop-less c = omega arith
 
 loop-again : tie.Need-loop-again Inv-loop μ-loop
 loop-again c = search (needs, mark-more, first-small, second-small)

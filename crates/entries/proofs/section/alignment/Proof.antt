@@ -2,27 +2,28 @@
 -- Assumes nothing.
 use mir.Facts.{fits-16-64}
 use Rattle.entries.proofs.PartLaws.{segment-length, next-fits, no-plus, past-end, alignment-found}
+use native.Mathlib.Omega.{arith}
 use borrow.Author.Needs.{needs}
 use Rattle.entries.proofs.section.alignment.Statement.{statement}
 use Rattle.entries.proofs.section.alignment.Tie as tie
 
 mul-at : tie.Need-mul-at
-mul-at c = search needs
+mul-at c = omega arith
 
 add-at : tie.Need-add-at
-add-at c = search needs
+add-at c = omega arith
 
 shared-slice-read-if1 : tie.Need-shared-slice-read-if1
-shared-slice-read-if1 c = search needs
+shared-slice-read-if1 c = omega arith
 
 returns : tie.Need-returns
 returns c = search (needs, no-plus)
 
 mul-from : tie.Need-mul-from
-mul-from c = search needs
+mul-from c = omega arith
 
 shared-slice-read-from : tie.Need-shared-slice-read-from
-shared-slice-read-from c = search needs
+shared-slice-read-from c = omega arith
 
 cast-from : tie.Need-cast-from
 cast-from c = fits-16-64 (c .shared-slice-known5 .given _)
@@ -34,13 +35,13 @@ returns-2 : tie.Need-returns-2
 returns-2 c = search (needs, past-end)
 
 sub-rest : tie.Need-sub-rest
-sub-rest c = search needs
+sub-rest c = omega arith
 
 part-rest-start : tie.Need-part-rest-start
-part-rest-start c = search needs
+part-rest-start c = omega arith
 
 part-rest-end : tie.Need-part-rest-end
-part-rest-end c = search needs
+part-rest-end c = omega arith
 
 segment-end-requires : tie.Need-segment-end-requires
 segment-end-requires c κs = search needs

@@ -1,6 +1,7 @@
 -- `entries::section::find_parts` meets its contract: by the number of separators and the last of them.
 -- Assumes nothing.
 use Rattle.entries.proofs.PartLaws.{no-head, no-part, head-found, one-part, foot-found, no-foot}
+use native.Mathlib.Omega.{arith}
 use borrow.Author.Needs.{needs}
 use Rattle.entries.proofs.section.find_parts.Statement.{statement}
 use Rattle.entries.proofs.section.find_parts.Tie as tie
@@ -18,7 +19,7 @@ returns-2 : tie.Need-returns-2
 returns-2 c = search (needs, head-found, one-part)
 
 sub-if3 : tie.Need-sub-if3
-sub-if3 c = search needs
+sub-if3 c = omega arith
 
 array-read-if3 : tie.Need-array-read-if3
 array-read-if3 c = search needs
@@ -27,10 +28,10 @@ cast-if3 : tie.Need-cast-if3
 cast-if3 c = search needs
 
 sub-if3-2 : tie.Need-sub-if3-2
-sub-if3-2 c = search needs
+sub-if3-2 c = omega arith
 
 sub-t15 : tie.Need-sub-t15
-sub-t15 c = search needs
+sub-t15 c = omega arith
 
 array-read-t18 : tie.Need-array-read-t18
 array-read-t18 c = search needs

@@ -3,6 +3,7 @@
 use Prim.Native.Nat.{_-_, _≤_}
 use mir.Facts.{fits-8-64}
 use Rattle.entries.proofs.WriteLaws.{top-first, some-height, Counted, none-counted, count-fits, count-more, all-counted}
+use native.Mathlib.Omega.{arith}
 use borrow.Author.Needs.{needs}
 use Rattle.entries.proofs.write.count_ranges.Statement.{statement}
 use Rattle.entries.proofs.write.count_ranges.Tie as tie
@@ -17,22 +18,22 @@ loop-holds : tie.Need-loop-holds Inv-loop μ-loop
 loop-holds c = search (needs, none-counted)
 
 mul-count : tie.Need-mul-count Inv-loop μ-loop
-mul-count c = search needs
+mul-count c = omega arith
 
 add-count : tie.Need-add-count Inv-loop μ-loop
-add-count c = search needs
+add-count c = omega arith
 
 shared-slice-read-count : tie.Need-shared-slice-read-count Inv-loop μ-loop
-shared-slice-read-count c = search needs
+shared-slice-read-count c = omega arith
 
 cast-count : tie.Need-cast-count Inv-loop μ-loop
 cast-count c = fits-8-64 (c .shared-slice-known .given _)
 
 mul-count-2 : tie.Need-mul-count-2 Inv-loop μ-loop
-mul-count-2 c = search needs
+mul-count-2 c = omega arith
 
 shared-slice-read-count-2 : tie.Need-shared-slice-read-count-2 Inv-loop μ-loop
-shared-slice-read-count-2 c = search needs
+shared-slice-read-count-2 c = omega arith
 
 cast-count-2 : tie.Need-cast-count-2 Inv-loop μ-loop
 cast-count-2 c = fits-8-64 (c .shared-slice-known2 .given _)
@@ -47,10 +48,10 @@ add-count-2 : tie.Need-add-count-2 Inv-loop μ-loop
 add-count-2 c = search (needs, count-fits)
 
 add-k : tie.Need-add-k Inv-loop μ-loop
-add-k c = search needs
+add-k c = omega arith
 
 loop-less : tie.Need-loop-less Inv-loop μ-loop
-loop-less c = search needs
+loop-less c = omega arith
 
 loop-again : tie.Need-loop-again Inv-loop μ-loop
 loop-again c = search (needs, count-more)

@@ -1,10 +1,9 @@
 -- `entries::write::write_cells` meets its contract. The invariant: the entries of the first k cells are written.
 -- Assumes nothing.
 use Prim.Native.Nat.{_-_, _≤_}
-use native.Mathlib.Omega.{arith}
-use lib.ListN.{length-set}
 use mir.Facts.{fits-sub, fits-8-64}
-use Rattle.entries.proofs.WriteLaws.{top-small, left-small, left-fits, bottom-small, right-small, rows-ordered, columns-ordered, CellsWritten, no-cell, cell-next, cells-done}
+use Rattle.entries.proofs.WriteLaws.{top-small, left-small, left-fits, bottom-small, right-small, rows-ordered, columns-ordered, CellsWritten, no-cell, cell-room, cell-next, cells-done}
+use native.Mathlib.Omega.{arith}
 use borrow.Author.Needs.{elem-fits-field, needs}
 use Rattle.entries.proofs.write.write_cells.Statement.{statement}
 use Rattle.entries.proofs.write.write_cells.Tie as tie
@@ -19,145 +18,94 @@ loop-holds : tie.Need-loop-holds Inv-loop μ-loop
 loop-holds c = search (needs, no-cell)
 
 mul-top : tie.Need-mul-top Inv-loop μ-loop
-mul-top c = search needs
+mul-top c = omega arith
 
 shared-slice-read-top : tie.Need-shared-slice-read-top Inv-loop μ-loop
-shared-slice-read-top c = search needs
+shared-slice-read-top c = omega arith
 
 cast-top : tie.Need-cast-top Inv-loop μ-loop
-cast-top c = fits-8-64 (c .shared-slice-known .given _)
+cast-top c = fits-8-64 (c .shared-slice-known2 .given _)
 
 mul-left : tie.Need-mul-left Inv-loop μ-loop
-mul-left c = search needs
+mul-left c = omega arith
 
 add-left : tie.Need-add-left Inv-loop μ-loop
-add-left c = search needs
+add-left c = omega arith
 
 shared-slice-read-left : tie.Need-shared-slice-read-left Inv-loop μ-loop
-shared-slice-read-left c = search needs
+shared-slice-read-left c = omega arith
 
 cast-left : tie.Need-cast-left Inv-loop μ-loop
-cast-left c = fits-8-64 (c .shared-slice-known2 .given _)
+cast-left c = fits-8-64 (c .shared-slice-known3 .given _)
 
 mul-bottom : tie.Need-mul-bottom Inv-loop μ-loop
-mul-bottom c = search needs
+mul-bottom c = omega arith
 
 add-bottom : tie.Need-add-bottom Inv-loop μ-loop
-add-bottom c = search needs
+add-bottom c = omega arith
 
 shared-slice-read-bottom : tie.Need-shared-slice-read-bottom Inv-loop μ-loop
-shared-slice-read-bottom c = search needs
+shared-slice-read-bottom c = omega arith
 
 cast-bottom : tie.Need-cast-bottom Inv-loop μ-loop
-cast-bottom c = fits-8-64 (c .shared-slice-known3 .given _)
+cast-bottom c = fits-8-64 (c .shared-slice-known4 .given _)
 
 mul-right : tie.Need-mul-right Inv-loop μ-loop
-mul-right c = search needs
+mul-right c = omega arith
 
 add-right : tie.Need-add-right Inv-loop μ-loop
-add-right c = search needs
+add-right c = omega arith
 
 shared-slice-read-right : tie.Need-shared-slice-read-right Inv-loop μ-loop
-shared-slice-read-right c = search needs
+shared-slice-read-right c = omega arith
 
 cast-right : tie.Need-cast-right Inv-loop μ-loop
-cast-right c = fits-8-64 (c .shared-slice-known4 .given _)
+cast-right c = fits-8-64 (c .shared-slice-known5 .given _)
 
 element-copy-out-row : tie.Need-element-copy-out-row Inv-loop μ-loop
-element-copy-out-row c = search (needs, top-small)
+element-copy-out-row c = search top-small
 
 element-copy-out-column : tie.Need-element-copy-out-column Inv-loop μ-loop
-element-copy-out-column c = search (needs, left-small)
+element-copy-out-column c = search left-small
 
-cast-out : tie.Need-cast-out Inv-loop μ-loop
-cast-out c = search (tt, elem-fits-field)
+cast-write-cell : tie.Need-cast-write-cell Inv-loop μ-loop
+cast-write-cell c = search (tt, elem-fits-field)
 
-mul-out : tie.Need-mul-out Inv-loop μ-loop
-mul-out c = search needs
+cast-write-cell-2 : tie.Need-cast-write-cell-2 Inv-loop μ-loop
+cast-write-cell-2 c = search (tt, elem-fits-field)
 
-mul-out-2 : tie.Need-mul-out-2 Inv-loop μ-loop
-mul-out-2 c = search needs
+element-copy-out-write-cell : tie.Need-element-copy-out-write-cell Inv-loop μ-loop
+element-copy-out-write-cell c = search right-small
 
-slice-write-out : tie.Need-slice-write-out Inv-loop μ-loop
-slice-write-out c = search needs
+sub-write-cell : tie.Need-sub-write-cell Inv-loop μ-loop
+sub-write-cell c = search columns-ordered
 
-cast-out-2 : tie.Need-cast-out-2 Inv-loop μ-loop
-cast-out-2 c = search (tt, elem-fits-field)
+cast-write-cell-3 : tie.Need-cast-write-cell-3 Inv-loop μ-loop
+cast-write-cell-3 c = search (tt, fits-sub, elem-fits-field)
 
-mul-out-3 : tie.Need-mul-out-3 Inv-loop μ-loop
-mul-out-3 c = search needs
+element-copy-out-write-cell-2 : tie.Need-element-copy-out-write-cell-2 Inv-loop μ-loop
+element-copy-out-write-cell-2 c = search bottom-small
 
-add-out : tie.Need-add-out Inv-loop μ-loop
-add-out c = search needs
+sub-write-cell-2 : tie.Need-sub-write-cell-2 Inv-loop μ-loop
+sub-write-cell-2 c = search rows-ordered
 
-mul-out-4 : tie.Need-mul-out-4 Inv-loop μ-loop
-mul-out-4 c = search needs
+cast-write-cell-4 : tie.Need-cast-write-cell-4 Inv-loop μ-loop
+cast-write-cell-4 c = search (tt, fits-sub, elem-fits-field)
 
-slice-write-out-2 : tie.Need-slice-write-out-2 Inv-loop μ-loop
-slice-write-out-2 c = simp length-set (omega arith)
+cast-write-cell-5 : tie.Need-cast-write-cell-5 Inv-loop μ-loop
+cast-write-cell-5 c = search left-fits
 
-element-copy-out-out : tie.Need-element-copy-out-out Inv-loop μ-loop
-element-copy-out-out c = search (needs, right-small)
+mul-write-cell : tie.Need-mul-write-cell Inv-loop μ-loop
+mul-write-cell c = omega arith
 
-sub-out : tie.Need-sub-out Inv-loop μ-loop
-sub-out c = search (needs, columns-ordered)
-
-cast-out-3 : tie.Need-cast-out-3 Inv-loop μ-loop
-cast-out-3 c = search (tt, fits-sub, elem-fits-field)
-
-mul-out-5 : tie.Need-mul-out-5 Inv-loop μ-loop
-mul-out-5 c = search needs
-
-add-out-2 : tie.Need-add-out-2 Inv-loop μ-loop
-add-out-2 c = search needs
-
-mul-out-6 : tie.Need-mul-out-6 Inv-loop μ-loop
-mul-out-6 c = search needs
-
-slice-write-out-3 : tie.Need-slice-write-out-3 Inv-loop μ-loop
-slice-write-out-3 c = simp length-set (omega arith)
-
-element-copy-out-out-2 : tie.Need-element-copy-out-out-2 Inv-loop μ-loop
-element-copy-out-out-2 c = search (needs, bottom-small)
-
-sub-out-2 : tie.Need-sub-out-2 Inv-loop μ-loop
-sub-out-2 c = search (needs, rows-ordered)
-
-cast-out-4 : tie.Need-cast-out-4 Inv-loop μ-loop
-cast-out-4 c = search (tt, fits-sub, elem-fits-field)
-
-mul-out-7 : tie.Need-mul-out-7 Inv-loop μ-loop
-mul-out-7 c = search needs
-
-add-out-3 : tie.Need-add-out-3 Inv-loop μ-loop
-add-out-3 c = search needs
-
-mul-out-8 : tie.Need-mul-out-8 Inv-loop μ-loop
-mul-out-8 c = search needs
-
-slice-write-out-4 : tie.Need-slice-write-out-4 Inv-loop μ-loop
-slice-write-out-4 c = simp length-set (omega arith)
-
-cast-out-5 : tie.Need-cast-out-5 Inv-loop μ-loop
-cast-out-5 c = search (needs, left-fits)
-
-mul-out-9 : tie.Need-mul-out-9 Inv-loop μ-loop
-mul-out-9 c = search needs
-
-add-out-4 : tie.Need-add-out-4 Inv-loop μ-loop
-add-out-4 c = search needs
-
-mul-out-10 : tie.Need-mul-out-10 Inv-loop μ-loop
-mul-out-10 c = search needs
-
-slice-write-out-5 : tie.Need-slice-write-out-5 Inv-loop μ-loop
-slice-write-out-5 c = simp length-set (omega arith)
+write-cell-requires : tie.Need-write-cell-requires Inv-loop μ-loop
+write-cell-requires c κs = search cell-room
 
 add-k : tie.Need-add-k Inv-loop μ-loop
-add-k c = search needs
+add-k c = omega arith
 
 loop-less : tie.Need-loop-less Inv-loop μ-loop
-loop-less c = search needs
+loop-less c = omega arith
 
 loop-again : tie.Need-loop-again Inv-loop μ-loop
 loop-again c = (search needs, search cell-next)
@@ -192,34 +140,17 @@ write-cells-spec =
     cast-right
     element-copy-out-row
     element-copy-out-column
-    cast-out
-    mul-out
-    mul-out-2
-    slice-write-out
-    cast-out-2
-    mul-out-3
-    add-out
-    mul-out-4
-    slice-write-out-2
-    element-copy-out-out
-    sub-out
-    cast-out-3
-    mul-out-5
-    add-out-2
-    mul-out-6
-    slice-write-out-3
-    element-copy-out-out-2
-    sub-out-2
-    cast-out-4
-    mul-out-7
-    add-out-3
-    mul-out-8
-    slice-write-out-4
-    cast-out-5
-    mul-out-9
-    add-out-4
-    mul-out-10
-    slice-write-out-5
+    cast-write-cell
+    cast-write-cell-2
+    element-copy-out-write-cell
+    sub-write-cell
+    cast-write-cell-3
+    element-copy-out-write-cell-2
+    sub-write-cell-2
+    cast-write-cell-4
+    cast-write-cell-5
+    mul-write-cell
+    write-cell-requires
     add-k
     loop-less
     loop-again

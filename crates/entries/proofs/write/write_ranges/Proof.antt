@@ -3,6 +3,7 @@
 use Prim.Native.Nat.{_-_, _≤_}
 use mir.Facts.{fits-8-64}
 use Rattle.entries.proofs.WriteLaws.{top-above, top-first, some-height, left-small, bottom-small, right-small, AllWritten, no-cell-ranges, rect-small, ranges-fit, entries-fit, place-fits, cell-ranges, all-ranges}
+use native.Mathlib.Omega.{arith}
 use borrow.Author.Needs.{needs}
 use Rattle.entries.proofs.write.write_ranges.Statement.{statement}
 use Rattle.entries.proofs.write.write_ranges.Tie as tie
@@ -17,46 +18,46 @@ loop-holds : tie.Need-loop-holds Inv-loop μ-loop
 loop-holds c = search (needs, no-cell-ranges)
 
 mul-top : tie.Need-mul-top Inv-loop μ-loop
-mul-top c = search needs
+mul-top c = omega arith
 
 shared-slice-read-top : tie.Need-shared-slice-read-top Inv-loop μ-loop
-shared-slice-read-top c = search needs
+shared-slice-read-top c = omega arith
 
 cast-top : tie.Need-cast-top Inv-loop μ-loop
 cast-top c = fits-8-64 (c .shared-slice-known3 .given _)
 
 mul-bottom : tie.Need-mul-bottom Inv-loop μ-loop
-mul-bottom c = search needs
+mul-bottom c = omega arith
 
 add-bottom : tie.Need-add-bottom Inv-loop μ-loop
-add-bottom c = search needs
+add-bottom c = omega arith
 
 shared-slice-read-bottom : tie.Need-shared-slice-read-bottom Inv-loop μ-loop
-shared-slice-read-bottom c = search needs
+shared-slice-read-bottom c = omega arith
 
 cast-bottom : tie.Need-cast-bottom Inv-loop μ-loop
 cast-bottom c = fits-8-64 (c .shared-slice-known4 .given _)
 
 mul-write-ranges-of : tie.Need-mul-write-ranges-of Inv-loop μ-loop
-mul-write-ranges-of c = search needs
+mul-write-ranges-of c = omega arith
 
 add-write-ranges-of : tie.Need-add-write-ranges-of Inv-loop μ-loop
-add-write-ranges-of c = search needs
+add-write-ranges-of c = omega arith
 
 shared-slice-read-write-ranges-of : tie.Need-shared-slice-read-write-ranges-of Inv-loop μ-loop
-shared-slice-read-write-ranges-of c = search needs
+shared-slice-read-write-ranges-of c = omega arith
 
 cast-write-ranges-of : tie.Need-cast-write-ranges-of Inv-loop μ-loop
 cast-write-ranges-of c = fits-8-64 (c .shared-slice-known5 .given _)
 
 mul-write-ranges-of-2 : tie.Need-mul-write-ranges-of-2 Inv-loop μ-loop
-mul-write-ranges-of-2 c = search needs
+mul-write-ranges-of-2 c = omega arith
 
 add-write-ranges-of-2 : tie.Need-add-write-ranges-of-2 Inv-loop μ-loop
-add-write-ranges-of-2 c = search needs
+add-write-ranges-of-2 c = omega arith
 
 shared-slice-read-write-ranges-of-2 : tie.Need-shared-slice-read-write-ranges-of-2 Inv-loop μ-loop
-shared-slice-read-write-ranges-of-2 c = search needs
+shared-slice-read-write-ranges-of-2 c = omega arith
 
 cast-write-ranges-of-2 : tie.Need-cast-write-ranges-of-2 Inv-loop μ-loop
 cast-write-ranges-of-2 c = fits-8-64 (c .shared-slice-known6 .given _)
@@ -77,10 +78,10 @@ add-at : tie.Need-add-at Inv-loop μ-loop
 add-at c = search (needs, place-fits)
 
 add-k : tie.Need-add-k Inv-loop μ-loop
-add-k c = search needs
+add-k c = omega arith
 
 loop-less : tie.Need-loop-less Inv-loop μ-loop
-loop-less c = search needs
+loop-less c = omega arith
 
 loop-again : tie.Need-loop-again Inv-loop μ-loop
 loop-again c = search (needs, cell-ranges)

@@ -16,61 +16,61 @@ abbrev μ-loop : tie.MeasureT-loop
 μ-loop offsets top left bottom right at out₀ y₀ i₀ out y i = bottom - y
 
 add-y : tie.Need-add-y Inv-loop μ-loop
-add-y c = search needs
+add-y c = omega arith
 
 loop-holds : tie.Need-loop-holds Inv-loop μ-loop
 loop-holds c = search (needs, no-range)
 
 mul-out : tie.Need-mul-out Inv-loop μ-loop
-mul-out c = search needs
+mul-out c = omega arith
 
 add-out : tie.Need-add-out Inv-loop μ-loop
-add-out c = search needs
+add-out c = omega arith
 
 mul-out-2 : tie.Need-mul-out-2 Inv-loop μ-loop
-mul-out-2 c = search needs
+mul-out-2 c = omega arith
 
 shared-slice-read-out : tie.Need-shared-slice-read-out Inv-loop μ-loop
-shared-slice-read-out c = search needs
+shared-slice-read-out c = omega arith
 
 add-out-2 : tie.Need-add-out-2 Inv-loop μ-loop
 add-out-2 c = search (needs, start-fits)
 
 mul-out-3 : tie.Need-mul-out-3 Inv-loop μ-loop
-mul-out-3 c = search needs
+mul-out-3 c = omega arith
 
 slice-write-out : tie.Need-slice-write-out Inv-loop μ-loop
-slice-write-out c = search needs
+slice-write-out c = omega arith
 
 mul-out-4 : tie.Need-mul-out-4 Inv-loop μ-loop
-mul-out-4 c = search needs
+mul-out-4 c = omega arith
 
 add-out-3 : tie.Need-add-out-3 Inv-loop μ-loop
-add-out-3 c = search needs
+add-out-3 c = omega arith
 
 mul-out-5 : tie.Need-mul-out-5 Inv-loop μ-loop
-mul-out-5 c = search needs
+mul-out-5 c = omega arith
 
 shared-slice-read-out-2 : tie.Need-shared-slice-read-out-2 Inv-loop μ-loop
-shared-slice-read-out-2 c = search needs
+shared-slice-read-out-2 c = omega arith
 
 add-out-4 : tie.Need-add-out-4 Inv-loop μ-loop
-add-out-4 c = search needs
+add-out-4 c = omega arith
 
 mul-out-6 : tie.Need-mul-out-6 Inv-loop μ-loop
-mul-out-6 c = search needs
+mul-out-6 c = omega arith
 
 slice-write-out-2 : tie.Need-slice-write-out-2 Inv-loop μ-loop
 slice-write-out-2 c = simp length-set (omega arith)
 
 add-i : tie.Need-add-i Inv-loop μ-loop
-add-i c = search needs
+add-i c = omega arith
 
 add-y-2 : tie.Need-add-y-2 Inv-loop μ-loop
-add-y-2 c = search needs
+add-y-2 c = omega arith
 
 loop-less : tie.Need-loop-less Inv-loop μ-loop
-loop-less c = search needs
+loop-less c = omega arith
 
 loop-again : tie.Need-loop-again Inv-loop μ-loop
 loop-again c = search (needs, range-next)

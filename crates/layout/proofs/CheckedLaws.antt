@@ -1,0 +1,135 @@
+-- Laws of the checks up to the width.
+-- Assumes nothing.
+use Prim.Native.Nat.{ℕ, zero, suc, _+_, _-_, _≤_, _<_}
+use mathlib.Core.Path.{_≡_, refl, sym, _∙_}
+use mathlib.Core.Bool.{Bool, true, false, not, _&&_}
+use mathlib.Core.List.{List, [], _∷_}
+use native.Mathlib.Omega.{arith}
+use lib.Dec.{eqb, ltb}
+use lib.ListN.{length, getD, take, drop}
+use lib.Seq.{drop-drop}
+use borrow.Author.Tests.{eqb-true, lt-ltb, le-ltb, not-false}
+use Rattle.seq.specs.Lists.{sum, firstAt, isEmpty}
+use Rattle.seq.proofs.Tests.{and-left, and-right}
+use Rattle.seq.proofs.Gathered.{sum-step, sum-within}
+use Rattle.text.specs.Utf8.{wellFormed}
+use Rattle.text.specs.Trim.{trimEnd}
+use Rattle.text.specs.Rule.{isRule}
+use Rattle.grid.specs.Answer.{accept, refuse, refuseIf}
+use Rattle.grid.specs.Values.{Line}
+use Rattle.grid.specs.Slots.{trimmedAt}
+use Rattle.grid.specs.Read.{drawingTooLarge, outsideSet, noRule}
+use Rattle.grid.specs.Flat.{drawingContradicts, splitText, linesWith, linesFrom, linesOf}
+use Rattle.grid.specs.LayoutParts.{widthAnswer}
+use Rattle.entries.specs.Checks.{Agree, placeOf}
+use Rattle.entries.specs.declared.Place.{Place}
+use Rattle.entries.specs.declared.Place.the-variants.{At, Nowhere}
+use Rattle.layout.specs.Call.{drawing}
+
+-- ---- a line of a text back to back
+text-at : (lengths text : List ℕ) (y : ℕ) → y < length lengths → getD (splitText lengths text) y [] ≡ take (getD lengths y 0) (drop (sum (take y lengths)) text)
+unfolding splitText sum
+text-at [] text y h = absurd (omega arith)
+text-at (n ∷ ns) text zero h = refl
+text-at (n ∷ ns) text (suc y) h = text-at ns (drop n text) y (omega arith) ∙ rw (drop-drop (sum (take y ns)) n text)
+
+module _ (lengths text : List ℕ) (at i : ℕ) (passed : at ≡ sum (take i lengths)) where
+  pub line-passed : (y : ℕ) → i < y → y < length lengths → at + getD lengths i 0 ≡ sum (take (i + 1) lengths)
+  line-passed y low h = omega (arith, sum-step lengths i (omega arith))
+
+  module _ (y : ℕ) (low : i ≤ y) (high : y ≤ i) where
+    pub line-end : sum lengths ≡ length text → at + getD lengths y 0 ≤ length text
+    line-end e = let same : i ≡ y = omega arith in let before : at ≡ sum (take y lengths) = rw same at passed in omega (arith, sum-within lengths y)
+
+    pub line-trimmed : (r : List ℕ) → y < length lengths → r ≡ trimEnd (take (at + getD lengths y 0 - at) (drop at text)) → r ≡ trimEnd (getD (splitText lengths text) y [])
+    line-trimmed r h e =
+        let same : i ≡ y = omega arith in
+        let before : at ≡ sum (take y lengths) = rw same at passed in
+        let k : at + getD lengths y 0 - at ≡ getD lengths y 0 = omega arith in
+        rw (text-at lengths text y h, ← before) (rw k at e)
+
+-- ---- lines and their texts
+outside-lines : (texts : List (List ℕ)) (columns : List ℕ) (at : ℕ) → firstAt (λ (line : Line). not (wellFormed (line .text))) at (linesWith texts columns) ≡ firstAt (λ line. not (wellFormed line)) at texts
+unfolding linesWith firstAt
+outside-lines [] columns at = refl
+outside-lines (t ∷ ts) columns at = rw (outside-lines ts (drop 1 columns) (at + 1))
+
+first-line : (texts : List (List ℕ)) (columns : List ℕ) → trimmedAt (linesWith texts columns) 0 ≡ trimEnd (getD texts 0 [])
+unfolding linesWith
+first-line [] columns = refl
+first-line (t ∷ ts) columns = refl
+
+empty-lines : (lengths columns text : List ℕ) → length lengths ≡ 0 → isEmpty (linesFrom lengths columns text) ≡ true
+unfolding splitText linesWith
+empty-lines [] columns text e = refl
+empty-lines (n ∷ ns) columns text e = absurd (omega arith)
+
+lines-left : (lengths columns text : List ℕ) → 0 < length lengths → isEmpty (linesFrom lengths columns text) ≡ false
+unfolding splitText linesWith
+lines-left [] columns text h = absurd (omega arith)
+lines-left (n ∷ ns) columns text h = refl
+
+all-four : (s t u v : Bool) → not (s && t && u && v) ≡ false → (s ≡ true) × (t ≡ true) × (u ≡ true) × (v ≡ true)
+all-four s t u v e =
+    let four = not-false (s && t && u && v) e in
+    let three = and-left (s && t && u) v four in
+    let two = and-left (s && t) u three in
+    (and-left s t two, and-right s t two, and-right (s && t) u three, and-right (s && t && u) v four)
+
+-- ---- the checks in their order
+module _ (lines bytes : ℕ) (lengths columns text : List ℕ) (a : Bool) (told : a ≡ drawingContradicts (drawing lines bytes lengths columns text)) where
+  pub contradicted : a ≡ true → refuse 13 0 ≡ widthAnswer (drawing lines bytes lengths columns text)
+  unfolding widthAnswer
+  contradicted t = rw (← told, t)
+
+  module _ (sized : a ≡ false) where
+    sizes : (length lengths ≡ lines) × (length columns ≡ lines) × (length text ≡ bytes) × (sum lengths ≡ bytes)
+    unfolding drawingContradicts
+    sizes =
+        let e = all-four (eqb (length lengths) lines) (eqb (length columns) lines) (eqb (length text) bytes) (eqb (sum lengths) bytes) (sym told ∙ sized) in
+        (eqb-true (length lengths) lines (e .0), eqb-true (length columns) lines (e .1), eqb-true (length text) bytes (e .2), eqb-true (sum lengths) bytes (e .3))
+
+    pub adds-up : sum lengths ≡ length text
+    adds-up = omega (arith, sizes)
+
+    pub agrees : Agree lengths columns text
+    agrees = record { columnsAgree = omega (arith, sizes); bytesAgree = adds-up }
+
+    pub no-lines : lines ≡ 0 → refuse 1 0 ≡ widthAnswer (drawing lines bytes lengths columns text)
+    unfolding widthAnswer linesOf
+    no-lines z = let e : length lengths ≡ 0 = omega (arith, sizes) in rw (← told, sized, empty-lines lengths columns text e)
+
+    module _ (some-lines : lines ≡ 0 → ⊥) where
+      pub some-length : 0 < length lengths
+      some-length = omega (arith, sizes)
+
+      module _ (b : Bool) (large-told : b ≡ drawingTooLarge (linesFrom lengths columns text)) where
+        pub large : b ≡ true → refuse 2 0 ≡ widthAnswer (drawing lines bytes lengths columns text)
+        unfolding widthAnswer linesOf
+        large t = rw (← told, sized, lines-left lengths columns text some-length, ← large-told, t)
+
+        module _ (small : b ≡ false) (p : Place) (place-told : placeOf p ≡ firstAt (λ line. not (wellFormed line)) 0 (splitText lengths text)) where
+          outside-told : outsideSet (linesFrom lengths columns text) ≡ placeOf p
+          unfolding outsideSet
+          outside-told = outside-lines (splitText lengths text) columns 0 ∙ sym place-told
+
+          pub outside : (y : ℕ) → p ≡ At y → refuse 3 y ≡ widthAnswer (drawing lines bytes lengths columns text)
+          unfolding widthAnswer linesOf
+          outside y e = rw (← told, sized, lines-left lengths columns text some-length, ← large-told, small, outside-told, e)
+
+          module _ (inside : p ≡ Nowhere) (top : List ℕ) (top-told : top ≡ trimEnd (getD (splitText lengths text) 0 [])) (r : Bool) (rule-told : r ≡ isRule 0x2d top) where
+            trimmed-told : trimmedAt (linesFrom lengths columns text) 0 ≡ top
+            trimmed-told = first-line (splitText lengths text) columns ∙ sym top-told
+
+            rest-told : widthAnswer (drawing lines bytes lengths columns text) ≡ refuseIf (not r) 4 (refuseIf (ltb 128 (length top)) 2 (accept (length top)))
+            unfolding widthAnswer linesOf noRule
+            rest-told = rw (← told, sized, lines-left lengths columns text some-length, ← large-told, small, outside-told, inside, trimmed-told, rule-told)
+
+            pub no-rule : not r ≡ true → refuse 4 0 ≡ widthAnswer (drawing lines bytes lengths columns text)
+            no-rule e = rw (rest-told, e)
+
+            pub too-wide : not r ≡ false → 128 < length top → refuse 2 0 ≡ widthAnswer (drawing lines bytes lengths columns text)
+            too-wide e h = rw (rest-told, e, lt-ltb 128 (length top) h)
+
+            pub measured : not r ≡ false → length top ≤ 128 → accept (length top) ≡ widthAnswer (drawing lines bytes lengths columns text)
+            measured e h = rw (rest-told, e, le-ltb 128 (length top) h)

@@ -1,0 +1,58 @@
+-- The answer and the arrays of the layout call's last part.
+-- Assumes nothing.
+use Prim.Native.Nat.{ℕ, _+_, _*_, _-_, _≤_, _<_}
+use mathlib.Core.Path.{_≡_, refl, sym, ap, _∙_}
+use mathlib.Core.Bool.{Bool, true, false, _||_}
+use mathlib.Core.List.{List, []}
+use native.Mathlib.Omega.{arith}
+use lib.Dec.{ltb}
+use lib.ListN.{length}
+use Rattle.seq.specs.Lists.{sum, orDefault}
+use Rattle.grid.specs.Answer.{Answer, accept, refuse, refuseIf, andThen, afterwards, over}
+use Rattle.grid.specs.Values.{Line, Rect}
+use Rattle.grid.specs.Slots.{gridOf, trimmedAt}
+use Rattle.grid.specs.Layout.{alignmentLine, headEnd, footStart, columnLines, rowLines, layoutOf}
+use Rattle.grid.specs.LayoutCall.{LayoutArrays, layoutArrays, layoutShort, layoutOver}
+use Rattle.grid.specs.LayoutParts.{finishAnswer, finishSizes, finishArrays}
+use Rattle.grid.proofs.SizeLaws.{innerCount, sizes-agree, short-agrees}
+use Rattle.entries.specs.Writing.{columnEntries, rowEntries, cellEntries, allRanges}
+use Rattle.entries.specs.declared.Parts.{Parts}
+use Rattle.entries.proofs.AgreeLaws.{Laid, arrays-agree}
+use Rattle.layout.specs.Call.{arrays}
+
+-- the tests of 12
+abbrev pub tooShort : LayoutArrays → ℕ → ℕ → ℕ → ℕ → Bool
+tooShort out across down n m =
+    ltb (length (out .columns)) (2 * across) || ltb (length (out .rows)) (3 * down) || ltb (length (out .cells)) (5 * n) || ltb (length (out .ranges)) (2 * m)
+
+module _ (lines : List Line) (rs : List Rect) (out : LayoutArrays) (across down n m : ℕ) (columns : across ≡ length (columnLines (gridOf lines) rs) - 1)
+    (rows : down ≡ length (rowLines (gridOf lines) rs) - 1) (cells : n ≡ length rs) (ranges : m ≡ innerCount rs) where
+  short-told : layoutShort out (layoutArrays (layoutOf lines (gridOf lines) rs)) ≡ tooShort out across down n m
+  short-told = short-agrees lines (gridOf lines) rs out ∙ rw (columns, rows, cells, ranges)
+
+  module _ (short : tooShort out across down n m ≡ true) where
+    pub no-room-answer : refuse 12 0 ≡ finishSizes lines rs out
+    unfolding finishSizes finishAnswer
+    no-room-answer = rw (short-told, short)
+
+    pub no-room-arrays : out ≡ finishArrays lines rs out
+    unfolding finishArrays finishAnswer
+    no-room-arrays = rw (short-told, short)
+
+  module _ (enough : tooShort out across down n m ≡ false) where
+    pub finished-answer : (width : ℕ) → width ≡ length (trimmedAt lines 0)
+        → accept (record { width = width; columns = across; rows = down; cells = n; ranges = m }) ≡ finishSizes lines rs out
+    unfolding finishSizes finishAnswer
+    finished-answer width wide = rw (short-told, enough, sizes-agree lines (gridOf lines) rs, wide, columns, rows, cells, ranges)
+
+    pub finished-arrays : (glyphs offsets : List ℕ) → Laid (gridOf lines) rs glyphs offsets → (p : Parts) → p .head ≡ orDefault 0 (headEnd (gridOf lines))
+        → p .foot ≡ orDefault 128 (footStart (gridOf lines)) → gridOf lines .height ≤ 128
+        → arrays
+        (over (columnEntries glyphs offsets (trimmedAt lines (p .head)) (p .head) (columnLines (gridOf lines) rs)) (out .columns))
+        (over (rowEntries p (rowLines (gridOf lines) rs)) (out .rows))
+        (over (cellEntries (rowLines (gridOf lines) rs) (columnLines (gridOf lines) rs) rs) (out .cells))
+        (over (allRanges offsets rs) (out .ranges))
+        ≡ finishArrays lines rs out
+    unfolding finishArrays finishAnswer layoutOver
+    finished-arrays glyphs offsets laid p head foot low =
+        rw (short-told, enough, arrays-agree lines (gridOf lines) rs glyphs offsets laid p head foot low, head)

@@ -1,0 +1,3 @@
+pub mod ThroughLaws
+pub mod CheckedLaws
+pub mod FinishLaws

@@ -1,0 +1,87 @@
+-- What filling and tracing a drawing give, in the terms of its grid.
+-- Assumes nothing.
+use Prim.Native.Nat.{ℕ, _≤_}
+use mathlib.Core.Path.{_≡_, refl, sym, ap, _∙_}
+use mathlib.Core.Bool.{true, false, not}
+use mathlib.Core.List.{List}
+use mathlib.Core.Logic.{⊎-elim}
+use native.Mathlib.Omega.{arith}
+use lib.ListN.{length}
+use borrow.Author.Tests.{not-true, not-false}
+use Rattle.grid.specs.Slots.{gridOf, trimmedAt}
+use Rattle.grid.specs.Trace.{covered, stopped, trace}
+use Rattle.grid.specs.Flat.{linesFrom}
+use Rattle.grid.specs.LayoutParts.{gridAnswer}
+use Rattle.grid.specs.Arrays.{arrayGrid, rectsOf}
+use Rattle.grid.proofs.GlyphLaws.{trace-same}
+use Rattle.grid.proofs.HoldsLaws.{array-same}
+use Rattle.grid.proofs.SlotLaws.{lines-length}
+use Rattle.grid.proofs.CoverTheorems.{stopped-six-or-seven}
+use Rattle.slots.specs.Filling.{AllFilled}
+use Rattle.slots.specs.declared.Filled.{Filled}
+use Rattle.trace.specs.Tracing.{tracedOf, countOf}
+use Rattle.trace.specs.declared.Traced as tracing
+use Rattle.trace.specs.declared.Traced.the-variants.{Covered, Stopped}
+use Rattle.layout.specs.Call.{Through}
+
+module _ (lengths columns text rects : List ℕ) {glyphs₀ offsets₀ glyphs offsets : List ℕ} {f : Filled}
+    (all : AllFilled (gridOf (linesFrom lengths columns text)) glyphs₀ offsets₀ glyphs offsets f) where
+  pub unfilled : not (f .full) ≡ true
+      → Through (gridOf (linesFrom lengths columns text)) glyphs offsets rects (record { number = 5; place = f .place; cells = 0; separators = f .separators })
+  unfolding gridAnswer
+  unfilled fails =
+      record {
+        refused = λ some. rw (all .wrong (not-true (f .full) fails));
+        accepted = λ z. absurd (omega arith);
+        few = omega arith;
+        held = λ z. absurd (omega arith);
+        separatorsRoom = all .separatorsRoom;
+        fewSeparators = all .fewSeparators;
+        separated = λ z. absurd (omega arith);
+      }
+
+  module _ {width : ℕ} (is : width ≡ length (trimmedAt (linesFrom lengths columns text) 0)) (passes : not (f .full) ≡ false) where
+    full : f .full ≡ true
+    full = not-false (f .full) passes
+
+    wide : gridOf (linesFrom lengths columns text) .width ≡ width
+    unfolding gridOf
+    wide = sym is
+
+    traced-arrays : trace (arrayGrid (length lengths) width glyphs) ≡ trace (gridOf (linesFrom lengths columns text))
+    traced-arrays =
+        rw (← wide, ← lines-length lengths columns text)
+        (sym (trace-same (gridOf (linesFrom lengths columns text)) _ (array-same (linesFrom lengths columns text) glyphs offsets (all .right full) (all .holds full))))
+
+    pub through : {t : tracing.Traced} (n : ℕ) → t ≡ Covered n → tracedOf t rects ≡ trace (arrayGrid (length lengths) width glyphs) → countOf t ≤ 1024
+        → Through (gridOf (linesFrom lengths columns text)) glyphs offsets rects (record { number = 0; place = 0; cells = n; separators = f .separators })
+    unfolding gridAnswer
+    through {t = t} n is-covered traced few =
+        let covers : covered (rectsOf n rects) ≡ trace (gridOf (linesFrom lengths columns text)) = ap (λ t. tracedOf t rects) (sym is-covered) ∙ traced ∙ traced-arrays in
+        let counted : n ≡ countOf t = ap countOf (sym is-covered) in
+        record {
+          refused = λ some. absurd (some refl);
+          accepted = λ z. rw (all .right full, ← covers);
+          few = omega arith;
+          held = λ z. all .holds full;
+          separatorsRoom = all .separatorsRoom;
+          fewSeparators = all .fewSeparators;
+          separated = λ z. all .separated full;
+        }
+
+    pub not-through : {t : tracing.Traced} (number : ℕ) → t ≡ Stopped number → tracedOf t rects ≡ trace (arrayGrid (length lengths) width glyphs)
+        → Through (gridOf (linesFrom lengths columns text)) glyphs offsets rects (record { number = number; place = 0; cells = 0; separators = f .separators })
+    unfolding gridAnswer
+    not-through {t = t} number is-stopped traced =
+        let stops : stopped number ≡ trace (gridOf (linesFrom lengths columns text)) = ap (λ t. tracedOf t rects) (sym is-stopped) ∙ traced ∙ traced-arrays in
+        let six-or-seven = stopped-six-or-seven (gridOf (linesFrom lengths columns text)) number (sym stops) in
+        let some : number ≡ 0 → ⊥ = λ z. ⊎-elim (λ (six : number ≡ 6). omega arith) (λ (seven : number ≡ 7). omega arith) six-or-seven in
+        record {
+          refused = λ some. rw (all .right full, ← stops);
+          accepted = λ z. absurd (some z);
+          few = omega arith;
+          held = λ z. absurd (some z);
+          separatorsRoom = all .separatorsRoom;
+          fewSeparators = all .fewSeparators;
+          separated = λ z. absurd (some z);
+        }

@@ -1,3 +1,4 @@
 pub mod ThroughLaws
 pub mod CheckedLaws
 pub mod FinishLaws
+pub mod WidthLaws

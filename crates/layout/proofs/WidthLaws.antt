@@ -1,0 +1,142 @@
+-- What a drawing has passed once its width is answered, and what working space that is not short has.
+-- Assumes nothing.
+use Prim.Native.Nat.{ℕ, zero, suc, _≤_}
+use mathlib.Core.Path.{_≡_, refl, sym}
+use mathlib.Core.Bool.{Bool, true, false, _||_}
+use mathlib.Core.List.{List, [], _∷_}
+use native.Mathlib.Omega.{arith}
+use lib.Dec.{ltb}
+use lib.ListN.{length, getD}
+use borrow.Author.Tests.{ltb-false}
+use Rattle.seq.specs.Lists.{any, isEmpty}
+use Rattle.seq.proofs.Tests.{true-not-false}
+use Rattle.grid.specs.Answer.{accept, refuse, refuseIf, refuseAt}
+use Rattle.grid.specs.Limits.{maxLines, maxLineBytes, maxBytes, maxWidth, maxOrigin}
+use Rattle.grid.specs.Slots.{trimmedAt, gridOf}
+use Rattle.grid.specs.Read.{drawingTooLarge, outsideSet, noRule}
+use Rattle.grid.specs.Flat.{FlatDrawing, drawingContradicts, linesFrom, linesOf}
+use Rattle.grid.specs.LayoutCall.{LayoutSpace, LayoutArrays, slotSpace, rectSpace, spaceShort, layoutAnswer, layoutAfterwards}
+use Rattle.grid.specs.LayoutParts.{widthAnswer, finishSizes, finishArrays}
+use Rattle.grid.specs.Arrays.{rectsOf}
+use Rattle.grid.proofs.LayoutPartsLaws.{untraced-answer, untraced-arrays, traced-answer, traced-arrays}
+use Rattle.grid.proofs.ReadLaws.{passed-if, passed-at}
+use Rattle.entries.specs.Checks.{Agree, anyOver}
+use Rattle.entries.proofs.CheckLaws.{limits-apart}
+use Rattle.slots.specs.Filling.{Sheet}
+use Rattle.layout.specs.declared.Measured.{Measured}
+use Rattle.layout.specs.declared.Measured.the-variants.{Width, Refused}
+use Rattle.layout.specs.declared.Outcome.{Outcome}
+use Rattle.layout.specs.Call.{spaces, drawing, checkedOf, Through}
+use Rattle.layout.proofs.CheckedLaws.{agrees}
+
+both-false : (s t : Bool) → s || t ≡ false → (s ≡ false) × (t ≡ false)
+both-false true t e = absurd (true-not-false e)
+both-false false t e = (refl, e)
+
+none-over-limit : (limit : ℕ) (numbers : List ℕ) → anyOver limit numbers ≡ false → (i : ℕ) → getD numbers i 0 ≤ limit
+unfolding anyOver any
+none-over-limit limit [] e i = omega arith
+none-over-limit limit (n ∷ ns) e zero = ltb-false limit n (both-false (ltb limit n) (any (λ n. ltb limit n) ns) e .0)
+none-over-limit limit (n ∷ ns) e (suc i) = none-over-limit limit ns (both-false (ltb limit n) (any (λ n. ltb limit n) ns) e .1) i
+
+-- ---- a drawing whose width is answered
+module _ (lines bytes : ℕ) (lengths columns text : List ℕ) (width : ℕ) (e : accept width ≡ widthAnswer (drawing lines bytes lengths columns text)) where
+  checks : (drawingContradicts (drawing lines bytes lengths columns text) ≡ false) × (drawingTooLarge (linesFrom lengths columns text) ≡ false)
+      × (ltb maxWidth (length (trimmedAt (linesFrom lengths columns text) 0)) ≡ false) × (width ≡ length (trimmedAt (linesFrom lengths columns text) 0))
+  unfolding widthAnswer linesOf
+  checks =
+      let d = drawing lines bytes lengths columns text in
+      let all = linesFrom lengths columns text in
+      let last = accept (length (trimmedAt all 0)) in
+      let wide = refuseIf (ltb maxWidth (length (trimmedAt all 0))) 2 last in
+      let four = refuseIf (noRule all) 4 wide in
+      let three = refuseAt (outsideSet all) 3 four in
+      let two = refuseIf (drawingTooLarge all) 2 three in
+      let one = refuseIf (isEmpty all) 1 two in
+      let p0 = passed-if (drawingContradicts d) 13 one width (sym e) in
+      let p1 = passed-if (isEmpty all) 1 two width (p0 .1) in
+      let p2 = passed-if (drawingTooLarge all) 2 three width (p1 .1) in
+      let p3 = passed-at (outsideSet all) 3 four width (p2 .1) in
+      let p4 = passed-if (noRule all) 4 wide width (p3 .1) in
+      let pw = passed-if (ltb maxWidth (length (trimmedAt all 0))) 2 last width (p4 .1) in
+      let same : _≡_ last (accept width) = pw .1 in
+      (p0 .0, p2 .0, pw .0, cc)
+
+  agreed : Agree lengths columns text
+  agreed = agrees lines bytes lengths columns text false (sym (checks .0)) refl
+
+  limits : (ltb maxLines (length lengths) ≡ false) × (anyOver maxLineBytes lengths ≡ false) × (anyOver maxOrigin columns ≡ false)
+  limits =
+      let most = ltb maxLines (length lengths) in
+      let s = anyOver maxLineBytes lengths in
+      let t = anyOver maxOrigin columns in
+      let p = both-false (most || (s || t)) (ltb maxBytes (length text)) (rw (limits-apart lengths columns text agreed) at (checks .1)) in
+      let q = both-false most (s || t) (p .0) in
+      let r = both-false s t (q .1) in
+      (q .0, r .0, r .1)
+
+  pub sheet-passed : Sheet lengths columns text
+  sheet-passed =
+      record {
+        columnsAgree = agreed .columnsAgree;
+        bytesAgree = agreed .bytesAgree;
+        fewLines = ltb-false maxLines (length lengths) (limits .0);
+        shortLines = none-over-limit maxLineBytes lengths (limits .1);
+        nearColumns = none-over-limit maxOrigin columns (limits .2);
+      }
+
+  pub width-told : width ≡ length (trimmedAt (linesFrom lengths columns text) 0)
+  width-told = checks .3
+
+  pub width-fits : width ≤ 128
+  width-fits = omega (arith, checks .3, ltb-false maxWidth (length (trimmedAt (linesFrom lengths columns text) 0)) (checks .2))
+
+-- ---- working space that is not short
+module _ (glyphs offsets down right rects : List ℕ) (enough : spaceShort (spaces glyphs offsets down right rects) ≡ false) where
+  pub rooms : (slotSpace ≤ length glyphs) × (slotSpace ≤ length offsets) × (slotSpace ≤ length down) × (slotSpace ≤ length right) × (rectSpace ≤ length rects)
+  unfolding spaceShort
+  rooms =
+      let a = ltb (length glyphs) slotSpace in
+      let b = ltb (length offsets) slotSpace in
+      let c = ltb (length down) slotSpace in
+      let d = ltb (length right) slotSpace in
+      let f = ltb (length rects) rectSpace in
+      let p = both-false (a || b || c || d) f enough in
+      let q = both-false (a || b || c) d (p .0) in
+      let r = both-false (a || b) c (q .0) in
+      let s = both-false a b (r .0) in (
+        ltb-false (length glyphs) slotSpace (s .0),
+        ltb-false (length offsets) slotSpace (s .1),
+        ltb-false (length down) slotSpace (r .1),
+        ltb-false (length right) slotSpace (q .1),
+        ltb-false (length rects) rectSpace (p .1),
+      )
+
+-- ---- what the checks answered
+pub width-refused : (m : Measured) (number place : ℕ) (d : FlatDrawing) → m ≡ Refused number place → checkedOf m ≡ widthAnswer d → refuse number place ≡ widthAnswer d
+width-refused m number place d f e = rw f at e
+
+pub width-accepted : (m : Measured) (width : ℕ) (d : FlatDrawing) → m ≡ Width width → checkedOf m ≡ widthAnswer d → accept width ≡ widthAnswer d
+width-accepted m width d f e = rw f at e
+
+-- ---- after tracing
+module _ (w : LayoutSpace) (lines bytes : ℕ) (lengths columns text : List ℕ) (out : LayoutArrays) (enough : spaceShort w ≡ false)
+    (width : ℕ) (e : accept width ≡ widthAnswer (drawing lines bytes lengths columns text))
+    (glyphs offsets rects : List ℕ) (s : Outcome) (t : Through (gridOf (linesFrom lengths columns text)) glyphs offsets rects s) where
+  module _ (h : s .number ≡ 0 → ⊥) where
+    pub stopped-answer : refuse (s .number) (s .place) ≡ layoutAnswer w (drawing lines bytes lengths columns text) out
+    unfolding linesOf
+    stopped-answer = untraced-answer w (drawing lines bytes lengths columns text) out enough width e (s .number) (s .place) (t .refused h)
+
+    pub stopped-arrays : out ≡ layoutAfterwards w (drawing lines bytes lengths columns text) out
+    unfolding linesOf
+    stopped-arrays = untraced-arrays w (drawing lines bytes lengths columns text) out enough width e (s .number) (s .place) (t .refused h)
+
+  module _ (h : s .number ≡ 0) where
+    pub finished-answer : finishSizes (linesFrom lengths columns text) (rectsOf (s .cells) rects) out ≡ layoutAnswer w (drawing lines bytes lengths columns text) out
+    unfolding linesOf
+    finished-answer = traced-answer w (drawing lines bytes lengths columns text) out enough width e (rectsOf (s .cells) rects) (t .accepted h)
+
+    pub finished-arrays : finishArrays (linesFrom lengths columns text) (rectsOf (s .cells) rects) out ≡ layoutAfterwards w (drawing lines bytes lengths columns text) out
+    unfolding linesOf
+    finished-arrays = traced-arrays w (drawing lines bytes lengths columns text) out enough width e (rectsOf (s .cells) rects) (t .accepted h)

@@ -54,10 +54,11 @@ unfolding linesWith firstAt
 outside-lines [] columns at = refl
 outside-lines (t ∷ ts) columns at = rw (outside-lines ts (drop 1 columns) (at + 1))
 
-first-line : (texts : List (List ℕ)) (columns : List ℕ) → trimmedAt (linesWith texts columns) 0 ≡ trimEnd (getD texts 0 [])
+pub trimmed-text : (texts : List (List ℕ)) (columns : List ℕ) (y : ℕ) → trimmedAt (linesWith texts columns) y ≡ trimEnd (getD texts y [])
 unfolding linesWith
-first-line [] columns = refl
-first-line (t ∷ ts) columns = refl
+trimmed-text [] columns y = refl
+trimmed-text (t ∷ ts) columns zero = refl
+trimmed-text (t ∷ ts) columns (suc y) = trimmed-text ts (drop 1 columns) y
 
 empty-lines : (lengths columns text : List ℕ) → length lengths ≡ 0 → isEmpty (linesFrom lengths columns text) ≡ true
 unfolding splitText linesWith
@@ -119,7 +120,7 @@ module _ (lines bytes : ℕ) (lengths columns text : List ℕ) (a : Bool) (told 
 
           module _ (inside : p ≡ Nowhere) (top : List ℕ) (top-told : top ≡ trimEnd (getD (splitText lengths text) 0 [])) (r : Bool) (rule-told : r ≡ isRule 0x2d top) where
             trimmed-told : trimmedAt (linesFrom lengths columns text) 0 ≡ top
-            trimmed-told = first-line (splitText lengths text) columns ∙ sym top-told
+            trimmed-told = trimmed-text (splitText lengths text) columns 0 ∙ sym top-told
 
             rest-told : widthAnswer (drawing lines bytes lengths columns text) ≡ refuseIf (not r) 4 (refuseIf (ltb 128 (length top)) 2 (accept (length top)))
             unfolding widthAnswer linesOf noRule

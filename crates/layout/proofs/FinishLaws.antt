@@ -1,17 +1,16 @@
 -- The answer and the arrays of the layout call's last part.
 -- Assumes nothing.
-use Prim.Native.Nat.{ℕ, _+_, _*_, _-_, _≤_, _<_}
-use mathlib.Core.Path.{_≡_, refl, sym, ap, _∙_}
+use Prim.Native.Nat.{ℕ, _*_, _-_, _≤_}
+use mathlib.Core.Path.{_≡_, _∙_}
 use mathlib.Core.Bool.{Bool, true, false, _||_}
-use mathlib.Core.List.{List, []}
-use native.Mathlib.Omega.{arith}
+use mathlib.Core.List.{List}
 use lib.Dec.{ltb}
 use lib.ListN.{length}
-use Rattle.seq.specs.Lists.{sum, orDefault}
-use Rattle.grid.specs.Answer.{Answer, accept, refuse, refuseIf, andThen, afterwards, over}
+use Rattle.seq.specs.Lists.{orDefault}
+use Rattle.grid.specs.Answer.{accept, refuse, over}
 use Rattle.grid.specs.Values.{Line, Rect}
 use Rattle.grid.specs.Slots.{gridOf, trimmedAt}
-use Rattle.grid.specs.Layout.{alignmentLine, headEnd, footStart, columnLines, rowLines, layoutOf}
+use Rattle.grid.specs.Layout.{headEnd, footStart, columnLines, rowLines, layoutOf}
 use Rattle.grid.specs.LayoutCall.{LayoutArrays, layoutArrays, layoutShort, layoutOver}
 use Rattle.grid.specs.LayoutParts.{finishAnswer, finishSizes, finishArrays}
 use Rattle.grid.proofs.SizeLaws.{innerCount, sizes-agree, short-agrees}

@@ -29,7 +29,7 @@ use Rattle.layout.specs.declared.Outcome.{Outcome}
 use Rattle.layout.specs.Call.{spaces, drawing, checkedOf, Through}
 use Rattle.layout.proofs.CheckedLaws.{agrees}
 
-both-false : (s t : Bool) → s || t ≡ false → (s ≡ false) × (t ≡ false)
+pub both-false : (s t : Bool) → s || t ≡ false → (s ≡ false) × (t ≡ false)
 both-false true t e = absurd (true-not-false e)
 both-false false t e = (refl, e)
 

@@ -4,12 +4,12 @@ use mathlib.Core.Path.{_≡_}
 use mathlib.Core.List.{List}
 use lib.ListN.{length}
 use Rattle.grid.specs.Answer.{Answer, accept, refuse}
-use Rattle.grid.specs.Slots.{Grid}
-use Rattle.grid.specs.Flat.{FlatDrawing}
-use Rattle.grid.specs.LayoutCall.{LayoutSpace, LayoutSizes, LayoutArrays}
+use Rattle.grid.specs.Slots.{Grid, gridOf, trimmedAt}
+use Rattle.grid.specs.Flat.{FlatDrawing, linesFrom}
+use Rattle.grid.specs.LayoutCall.{LayoutSpace, LayoutSizes, LayoutArrays, rectSpace}
 use Rattle.grid.specs.LayoutParts.{gridAnswer}
-use Rattle.grid.specs.Arrays.{Holds, rectsOf}
-use Rattle.slots.specs.Filling.{separatorLines}
+use Rattle.grid.specs.Arrays.{Holds, Roomy, rectsOf}
+use Rattle.slots.specs.Filling.{Sheet, separatorLines}
 use Rattle.layout.specs.declared.Measured.{Measured}
 use Rattle.layout.specs.declared.Measured.the-variants.{Width, Refused}
 use Rattle.layout.specs.declared.Outcome.{Outcome}
@@ -47,3 +47,12 @@ pub record Through (g : Grid) (glyphs offsets rects : List ℕ) (s : Outcome) : 
   pub separatorsRoom : length (s .separators .lines) ≡ 128
   pub fewSeparators : s .separators .count ≤ 128
   pub separated : s .number ≡ 0 → separatorLines (s .separators) ≡ g .separators
+
+-- a drawing that was traced: what its arrays have room for and hold
+pub record TracedSheet (lengths columns text : List ℕ) (width : ℕ) (glyphs offsets rects : List ℕ) (s : Outcome) : Type 0 where
+  pub sheet : Sheet lengths columns text
+  pub roomy : Roomy (length lengths) width glyphs offsets
+  pub rectRoom : rectSpace ≤ length rects
+  pub wide : width ≡ length (trimmedAt (linesFrom lengths columns text) 0)
+  pub through : Through (gridOf (linesFrom lengths columns text)) glyphs offsets rects s
+  pub complete : s .number ≡ 0

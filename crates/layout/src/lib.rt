@@ -6,6 +6,10 @@ use entries::Place;
 use entries::check::contradicts;
 use entries::check::first_outside;
 use entries::check::too_large;
+use entries::lines::col_bounds;
+use entries::lines::row_bounds;
+use entries::section::find_parts;
+use entries::write::count_ranges;
 use entries::write::write_cells;
 use entries::write::write_columns;
 use entries::write::write_ranges;
@@ -28,12 +32,12 @@ ghost use Rattle.grid.specs.Answer.{over};
 ghost use Rattle.grid.specs.Values.{Rect};
 ghost use Rattle.grid.specs.Slots.{gridOf, trimmedAt};
 ghost use Rattle.grid.specs.Flat.{splitText, linesFrom};
-ghost use Rattle.grid.specs.LayoutCall.{slotSpace, rectSpace, spaceShort};
-ghost use Rattle.grid.specs.LayoutParts.{widthAnswer};
+ghost use Rattle.grid.specs.LayoutCall.{slotSpace, rectSpace, spaceShort, layoutAnswer, layoutAfterwards};
+ghost use Rattle.grid.specs.LayoutParts.{widthAnswer, finishSizes, finishArrays};
 ghost use Rattle.grid.specs.Arrays.{codeAt, rectsOf, Roomy};
 ghost use Rattle.slots.specs.Filling.{Sheet};
 ghost use Rattle.entries.specs.Writing.{linesHeld, Rising, columnEntries, rowEntries, cellEntries, allRanges, Numbered};
-ghost use Rattle.layout.specs.Call.{checkedOf, Through, drawing};
+ghost use Rattle.layout.specs.Call.{answerOf, spaces, arrays, checkedOf, Through, TracedSheet, drawing};
 
 const SLOT_SPACE: usize = 16384;
 
@@ -72,7 +76,7 @@ pub enum LayoutAnswer {
 }
 
 // 13, of the working space.
-pub fn space_short(glyphs: usize, offsets: usize, down: usize, right: usize, rects: usize) -> bool
+fn space_short(glyphs: usize, offsets: usize, down: usize, right: usize, rects: usize) -> bool
     ensures { λ r. ⌜ r ≡ spaceShort (record { glyphs = glyphs; offsets = offsets; down = down; right = right; rects = rects }) ⌝ }
 {
     (glyphs < SLOT_SPACE)
@@ -83,7 +87,7 @@ pub fn space_short(glyphs: usize, offsets: usize, down: usize, right: usize, rec
 }
 
 // Line y, trimmed: a part of the text.
-pub fn trimmed_line<'a>(lengths: &[u16], text: &'a [u8], y: usize) -> &'a [u8]
+fn trimmed_line<'a>(lengths: &[u16], text: &'a [u8], y: usize) -> &'a [u8]
     requires { ⌜ (sum (now lengths) ≡ length (now text)) × (y < length (now lengths)) ⌝ }
     ensures { λ r. ⌜ now r ≡ trimEnd (getD (splitText (now (lengths .entry)) (now (text .entry))) y []) ⌝ }
 {
@@ -98,13 +102,7 @@ pub fn trimmed_line<'a>(lengths: &[u16], text: &'a [u8], y: usize) -> &'a [u8]
 }
 
 // The checks up to the width.
-pub fn checked(
-    lines: usize,
-    bytes: usize,
-    lengths: &[u16],
-    columns: &[u16],
-    text: &[u8],
-) -> Measured
+fn checked(lines: usize, bytes: usize, lengths: &[u16], columns: &[u16], text: &[u8]) -> Measured
     ensures { λ r. ⌜ checkedOf r ≡ widthAnswer (drawing lines bytes (now (lengths .entry)) (now (columns .entry)) (now (text .entry))) ⌝ }
 {
     if contradicts(lines, bytes, lengths, columns, text) {
@@ -149,7 +147,7 @@ pub fn checked(
 }
 
 // The checks of the slots, and tracing.
-pub fn trace_lines(
+fn trace_lines(
     lengths: &[u16],
     columns: &[u16],
     text: &[u8],
@@ -197,7 +195,7 @@ pub fn trace_lines(
 }
 
 // Writes the four arrays.
-pub fn write_layout(
+fn write_layout(
     rects: &[u8],
     n: usize,
     tops: Bounds,
@@ -228,4 +226,138 @@ pub fn write_layout(
     write_rows(tops, parts, rows);
     write_cells(rects, n, tops, lefts, cells);
     write_ranges(rects, n, offsets, ranges);
+}
+
+// From the traced rectangles to the layout.
+fn finish(
+    lengths: &[u16],
+    columns: &[u16],
+    text: &[u8],
+    width: usize,
+    outcome: Outcome,
+    glyphs: &[u8],
+    offsets: &[u16],
+    rects: &[u8],
+    cols: &mut [u16],
+    rows: &mut [u16],
+    cells: &mut [u16],
+    ranges: &mut [u16],
+) -> LayoutAnswer
+    requires { ⌜ TracedSheet (now lengths) (now columns) (now text) width (now glyphs) (now offsets) (now rects) outcome ⌝ }
+    ensures { λ r. ⌜ answerOf r ≡ finishSizes (linesFrom (now (lengths .entry)) (now (columns .entry)) (now (text .entry))) (rectsOf (outcome .cells) (now (rects .entry))) (arrays (now (cols .entry)) (now (rows .entry)) (now (cells .entry)) (now (ranges .entry))) ⌝ }
+    ensures { λ _. ⌜ arrays (now (cols .exit)) (now (rows .exit)) (now (cells .exit)) (now (ranges .exit)) ≡ finishArrays (linesFrom (now (lengths .entry)) (now (columns .entry)) (now (text .entry))) (rectsOf (outcome .cells) (now (rects .entry))) (arrays (now (cols .entry)) (now (rows .entry)) (now (cells .entry)) (now (ranges .entry))) ⌝ }
+{
+    let height = lengths.len();
+    let n = outcome.cells;
+    let tops = row_bounds(rects, n, height);
+    let lefts = col_bounds(rects, n, width);
+    let m = count_ranges(rects, n);
+    let down = tops.count - 1;
+    let across = lefts.count - 1;
+    if (cols.len() < 2 * across)
+        | (rows.len() < 3 * down)
+        | (cells.len() < 5 * n)
+        | (ranges.len() < 2 * m)
+    {
+        return LayoutAnswer::Refused {
+            number: 12,
+            place: 0,
+        };
+    }
+    let separators = outcome.separators;
+    let lines = separators.lines;
+    let parts = find_parts(lines, separators.count, height);
+    let line = trimmed_line(lengths, text, parts.head);
+    write_layout(
+        rects,
+        n,
+        tops,
+        lefts,
+        parts,
+        glyphs,
+        offsets,
+        line,
+        cols,
+        rows,
+        cells,
+        ranges,
+    );
+    LayoutAnswer::Accepted {
+        width,
+        columns: across,
+        rows: down,
+        cells: n,
+        ranges: m,
+    }
+}
+
+// The layout of a drawing. Working space: glyphs, offsets, down and right of 16,384 entries each,
+// rects of 4,096.
+pub fn layout(
+    lines: usize,
+    bytes: usize,
+    lengths: &[u16],
+    columns: &[u16],
+    text: &[u8],
+    glyphs: &mut [u8],
+    offsets: &mut [u16],
+    down: &mut [u8],
+    right: &mut [u8],
+    rects: &mut [u8],
+    cols: &mut [u16],
+    rows: &mut [u16],
+    cells: &mut [u16],
+    ranges: &mut [u16],
+) -> LayoutAnswer
+    ensures { λ r. ⌜ answerOf r ≡ layoutAnswer (spaces (now (glyphs .entry)) (now (offsets .entry)) (now (down .entry)) (now (right .entry)) (now (rects .entry))) (drawing lines bytes (now (lengths .entry)) (now (columns .entry)) (now (text .entry))) (arrays (now (cols .entry)) (now (rows .entry)) (now (cells .entry)) (now (ranges .entry))) ⌝ }
+    ensures { λ _. ⌜ arrays (now (cols .exit)) (now (rows .exit)) (now (cells .exit)) (now (ranges .exit)) ≡ layoutAfterwards (spaces (now (glyphs .entry)) (now (offsets .entry)) (now (down .entry)) (now (right .entry)) (now (rects .entry))) (drawing lines bytes (now (lengths .entry)) (now (columns .entry)) (now (text .entry))) (arrays (now (cols .entry)) (now (rows .entry)) (now (cells .entry)) (now (ranges .entry))) ⌝ }
+{
+    if space_short(
+        glyphs.len(),
+        offsets.len(),
+        down.len(),
+        right.len(),
+        rects.len(),
+    ) {
+        return LayoutAnswer::Refused {
+            number: 13,
+            place: 0,
+        };
+    }
+    match checked(lines, bytes, lengths, columns, text) {
+        Measured::Refused { number, place } => LayoutAnswer::Refused { number, place },
+        Measured::Width(width) => {
+            let outcome = trace_lines(
+                lengths,
+                columns,
+                text,
+                width,
+                glyphs,
+                offsets,
+                down,
+                right,
+                rects,
+            );
+            if outcome.number != 0 {
+                return LayoutAnswer::Refused {
+                    number: outcome.number,
+                    place: outcome.place,
+                };
+            }
+            finish(
+                lengths,
+                columns,
+                text,
+                width,
+                outcome,
+                glyphs,
+                offsets,
+                rects,
+                cols,
+                rows,
+                cells,
+                ranges,
+            )
+        }
+    }
 }

@@ -1,5 +1,6 @@
--- The layout call in three parts, as the code takes them: the checks up to the width, the slots with tracing, and the layout with 12.
+-- The calls that read a drawing, in parts as the code takes them: the checks up to the width, the slots with tracing, and the layout with 12.
 use Prim.Native.Nat.{ℕ}
+use mathlib.Core.Bool.{_||_}
 use mathlib.Core.List.{List}
 use lib.ListN.{length}
 use lib.Dec.{ltb}
@@ -10,9 +11,13 @@ use Rattle.grid.specs.Values.{Line, Rect, Layout}
 use Rattle.grid.specs.Slots.{Grid, gridOf, trimmedAt}
 use Rattle.grid.specs.Trace.{trace}
 use Rattle.grid.specs.Layout.{layoutOf}
-use Rattle.grid.specs.Read.{drawingTooLarge, outsideSet, noRule, wrongWidth, rectangles}
+use Rattle.grid.specs.Read.{drawingTooLarge, outsideSet, noRule, wrongWidth, rectangles, readRects}
 use Rattle.grid.specs.Flat.{FlatDrawing, drawingContradicts, linesOf}
-use Rattle.grid.specs.LayoutCall.{LayoutSizes, LayoutArrays, layoutArrays, layoutSizes, layoutShort, layoutOver}
+use Rattle.grid.specs.LayoutCall.{LayoutSpace, LayoutSizes, LayoutArrays, spaceShort, layoutArrays, layoutSizes, layoutShort, layoutOver}
+
+-- "Reading checks 13, 1, 2, 3, 4, width (2), 5, then 6 or 7": the rectangles
+unfoldable pub rectsAnswer : LayoutSpace → FlatDrawing → Answer (List Rect)
+rectsAnswer w d = refuseIf (drawingContradicts d || spaceShort w) 13 (readRects (linesOf d))
 
 -- the checks up to the width
 unfoldable pub widthAnswer : FlatDrawing → Answer ℕ

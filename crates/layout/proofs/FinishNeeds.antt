@@ -18,7 +18,7 @@ use Rattle.seq.proofs.Ranges.{length-range}
 use Rattle.text.specs.Trim.{trimEnd}
 use Rattle.grid.specs.Answer.{accept, refuse, over}
 use Rattle.grid.specs.Values.{Rect}
-use Rattle.grid.specs.Slots.{gridOf}
+use Rattle.grid.specs.Slots.{gridOf, trimmedAt}
 use Rattle.grid.specs.Layout.{firstOf, lastButOne, headEnd, footStart, innerLines, columnLines, rowLines}
 use Rattle.grid.specs.Flat.{linesFrom, splitText}
 use Rattle.grid.specs.LayoutCall.{LayoutArrays, slotSpace}
@@ -33,10 +33,11 @@ use Rattle.entries.specs.Writing.{linesHeld, Rising, columnEntries, rowEntries,
 use Rattle.entries.specs.declared.Bounds.{Bounds}
 use Rattle.entries.specs.declared.Parts.{Parts}
 use Rattle.entries.proofs.TracedLaws.{inside, laid, cover, small-bytes, tops-held, lefts-held, tops-rise, lefts-rise, tops-some, lefts-some, lefts-small, numbered}
-use Rattle.layout.specs.Call.{arrays, TracedSheet}
-use Rattle.layout.specs.declared.Outcome.{Outcome}
-use Rattle.layout.proofs.CheckedLaws.{trimmed-text}
-use Rattle.layout.proofs.WidthLaws.{both-false}
+use Rattle.reading.specs.Call.{TracedSheet}
+use Rattle.layout.specs.Call.{arrays}
+use Rattle.reading.specs.declared.Outcome.{Outcome}
+use Rattle.reading.proofs.CheckedLaws.{trimmed-text}
+use Rattle.reading.proofs.WidthLaws.{both-false}
 use Rattle.layout.proofs.FinishLaws.{tooShort, no-room-answer, no-room-arrays, finished-answer, finished-arrays}
 
 -- rectangles inside 128 by 128 have entries below 128
@@ -65,8 +66,7 @@ ranges-length offsets [] = refl
 ranges-length offsets (r ∷ rs) =
     omega (arith, length-append (rangeEntries offsets r) (allRanges offsets rs), length-flatMap 2 (λ (y : ℕ). (codeAt offsets y (r .left) + 1) ∷ codeAt offsets y (r .right) ∷ []) (innerLines r) (λ y. refl), length-range (r .top + 1) (r .bottom - r .top - 1), ranges-length offsets rs)
 
-module _ (lengths columns text : List ℕ) (width : ℕ) (glyphs offsets rects : List ℕ) (o : Outcome)
-    (t : TracedSheet lengths columns text width glyphs offsets rects o) where
+module _ (lengths columns text glyphs offsets rects : List ℕ) (o : Outcome) (t : TracedSheet lengths columns text glyphs offsets rects o) where
   accepted : gridAnswer (gridOf (linesFrom lengths columns text)) ≡ accept (rectsOf (o .cells) rects)
   accepted = t .through .accepted (t .complete)
 
@@ -80,9 +80,12 @@ module _ (lengths columns text : List ℕ) (width : ℕ) (glyphs offsets rects :
   unfolding gridOf
   tall = count
 
-  across : gridOf (linesFrom lengths columns text) .width ≡ width
+  across : gridOf (linesFrom lengths columns text) .width ≡ o .width
+  across = sym (t .through .wide)
+
+  wide : o .width ≡ length (trimmedAt (linesFrom lengths columns text) 0)
   unfolding gridOf
-  across = sym (t .wide)
+  wide = t .through .wide
 
   separated : separatorLines (o .separators) ≡ gridOf (linesFrom lengths columns text) .separators
   separated = t .through .separated (t .complete)
@@ -124,7 +127,7 @@ module _ (lengths columns text : List ℕ) (width : ℕ) (glyphs offsets rects :
 
   -- the lines that were collected
   module _ (tops lefts : Bounds) (c : Collected (rowLinesBelow (length lengths) (rectsOf (o .cells) rects)) (length lengths) tops)
-      (d : Collected (columnLinesBelow width (rectsOf (o .cells) rects)) width lefts) where
+      (d : Collected (columnLinesBelow (o .width) (rectsOf (o .cells) rects)) (o .width) lefts) where
     c′ : Collected (rowLinesBelow (length (linesFrom lengths columns text)) (rectsOf (o .cells) rects)) (length (linesFrom lengths columns text)) tops
     c′ = rw count c
 
@@ -202,10 +205,10 @@ module _ (lengths columns text : List ℕ) (width : ℕ) (glyphs offsets rects :
             → ((cols ≡ over (columnEntries glyphs offsets line (p .head) (linesHeld lefts)) (out .columns))
             × ((rows ≡ over (rowEntries p (linesHeld tops)) (out .rows))
             × ((cells ≡ over (cellEntries (linesHeld tops) (linesHeld lefts) (rectsOf (o .cells) rects)) (out .cells)) × (ranges ≡ over (allRanges offsets (rectsOf (o .cells) rects)) (out .ranges)))))
-            → (accept (record { width = width; columns = lefts .count - 1; rows = tops .count - 1; cells = o .cells; ranges = m }) ≡ finishSizes (linesFrom lengths columns text) (rectsOf (o .cells) rects) out)
+            → (accept (record { width = o .width; columns = lefts .count - 1; rows = tops .count - 1; cells = o .cells; ranges = m }) ≡ finishSizes (linesFrom lengths columns text) (rectsOf (o .cells) rects) out)
             × (arrays cols rows cells ranges ≡ finishArrays (linesFrom lengths columns text) (rectsOf (o .cells) rects) out)
         written trimmed all = (
-          finished-answer (linesFrom lengths columns text) (rectsOf (o .cells) rects) out _ _ _ m across-told down-told (sym (length-rects (o .cells) rects)) counted enough width (t .wide),
+          finished-answer (linesFrom lengths columns text) (rectsOf (o .cells) rects) out _ _ _ m across-told down-told (sym (length-rects (o .cells) rects)) counted enough (o .width) wide,
           rw (all .0, all .1 .0, all .1 .1 .0, all .1 .1 .1, trimmed, ← trimmed-text (splitText lengths text) columns (p .head), downs, acrosses)
               (finished-arrays (linesFrom lengths columns text) (rectsOf (o .cells) rects) out _ _ _ m across-told down-told (sym (length-rects (o .cells) rects)) counted enough glyphs offsets (laid (linesFrom lengths columns text) (rectsOf (o .cells) rects) glyphs offsets accepted held) p (headed p parts) (footed p parts) (rw tall (t .sheet .fewLines))),
         )

@@ -1,5 +1,3 @@
-pub mod ThroughLaws
-pub mod CheckedLaws
 pub mod FinishLaws
-pub mod WidthLaws
 pub mod FinishNeeds
+pub mod CallLaws

@@ -1,11 +1,6 @@
-// The parts of the layout call, in their order: the checks up to the width, the slots with tracing,
-// and what is written (layout.rs: layout).
+// The layout call, and what it writes (layout.rs: layout).
 use entries::Bounds;
 use entries::Parts;
-use entries::Place;
-use entries::check::contradicts;
-use entries::check::first_outside;
-use entries::check::too_large;
 use entries::lines::col_bounds;
 use entries::lines::row_bounds;
 use entries::section::find_parts;
@@ -14,51 +9,22 @@ use entries::write::write_cells;
 use entries::write::write_columns;
 use entries::write::write_ranges;
 use entries::write::write_rows;
-use slots::Separators;
-use slots::fill::fill;
-use slots::reach::reach_down;
-use slots::reach::reach_right;
-use text::rule::is_rule;
-use text::trim::trim_end;
-use trace::Traced;
-use trace::tracing::trace;
+use reading::Outcome;
+use reading::read;
+use reading::trimmed_line;
 ghost use Prim.Native.Nat.{ℕ, _*_, _-_, _≤_, _<_};
 ghost use mathlib.Core.Path.{_≡_};
-ghost use mathlib.Core.List.{[], List·Memᴰ};
-ghost use lib.ListN.{length, getD};
-ghost use Rattle.seq.specs.Lists.{sum};
-ghost use Rattle.text.specs.Trim.{trimEnd};
+ghost use mathlib.Core.List.{List·Memᴰ};
+ghost use lib.ListN.{length};
 ghost use Rattle.grid.specs.Answer.{over};
 ghost use Rattle.grid.specs.Values.{Rect};
-ghost use Rattle.grid.specs.Slots.{gridOf, trimmedAt};
-ghost use Rattle.grid.specs.Flat.{splitText, linesFrom};
-ghost use Rattle.grid.specs.LayoutCall.{slotSpace, rectSpace, spaceShort, layoutAnswer, layoutAfterwards};
-ghost use Rattle.grid.specs.LayoutParts.{widthAnswer, finishSizes, finishArrays};
-ghost use Rattle.grid.specs.Arrays.{codeAt, rectsOf, Roomy};
-ghost use Rattle.slots.specs.Filling.{Sheet};
+ghost use Rattle.grid.specs.Flat.{linesFrom};
+ghost use Rattle.grid.specs.LayoutCall.{slotSpace, layoutAnswer, layoutAfterwards};
+ghost use Rattle.grid.specs.LayoutParts.{finishSizes, finishArrays};
+ghost use Rattle.grid.specs.Arrays.{codeAt, rectsOf};
 ghost use Rattle.entries.specs.Writing.{linesHeld, Rising, columnEntries, rowEntries, cellEntries, allRanges, Numbered};
-ghost use Rattle.layout.specs.Call.{answerOf, spaces, arrays, checkedOf, Through, TracedSheet, drawing};
-
-const SLOT_SPACE: usize = 16384;
-
-const RECT_SPACE: usize = 4096;
-
-const MAX_WIDTH: usize = 128;
-
-// What the checks up to the width give.
-pub enum Measured {
-    Width(usize),
-    Refused { number: usize, place: usize },
-}
-
-// What filling and tracing a drawing give: number 0 and how many rectangles, or the refusal; and
-// the separators.
-pub struct Outcome {
-    pub number: usize,
-    pub place: usize,
-    pub cells: usize,
-    pub separators: Separators,
-}
+ghost use Rattle.reading.specs.Call.{spaces, drawing, TracedSheet};
+ghost use Rattle.layout.specs.Call.{answerOf, arrays};
 
 // The width of the drawing and how many columns, rows, cells and ranges were written; or a refusal.
 pub enum LayoutAnswer {
@@ -73,125 +39,6 @@ pub enum LayoutAnswer {
         number: usize,
         place: usize,
     },
-}
-
-// 13, of the working space.
-fn space_short(glyphs: usize, offsets: usize, down: usize, right: usize, rects: usize) -> bool
-    ensures { λ r. ⌜ r ≡ spaceShort (record { glyphs = glyphs; offsets = offsets; down = down; right = right; rects = rects }) ⌝ }
-{
-    (glyphs < SLOT_SPACE)
-        | (offsets < SLOT_SPACE)
-        | (down < SLOT_SPACE)
-        | (right < SLOT_SPACE)
-        | (rects < RECT_SPACE)
-}
-
-// Line y, trimmed: a part of the text.
-fn trimmed_line<'a>(lengths: &[u16], text: &'a [u8], y: usize) -> &'a [u8]
-    requires { ⌜ (sum (now lengths) ≡ length (now text)) × (y < length (now lengths)) ⌝ }
-    ensures { λ r. ⌜ now r ≡ trimEnd (getD (splitText (now (lengths .entry)) (now (text .entry))) y []) ⌝ }
-{
-    let mut at = 0;
-    let mut i = 0;
-    while i < y {
-        at += lengths[i] as usize;
-        i += 1;
-    }
-    let end = at + lengths[y] as usize;
-    trim_end(&text[at..end])
-}
-
-// The checks up to the width.
-fn checked(lines: usize, bytes: usize, lengths: &[u16], columns: &[u16], text: &[u8]) -> Measured
-    ensures { λ r. ⌜ checkedOf r ≡ widthAnswer (drawing lines bytes (now (lengths .entry)) (now (columns .entry)) (now (text .entry))) ⌝ }
-{
-    if contradicts(lines, bytes, lengths, columns, text) {
-        return Measured::Refused {
-            number: 13,
-            place: 0,
-        };
-    }
-    if lines == 0 {
-        return Measured::Refused {
-            number: 1,
-            place: 0,
-        };
-    }
-    if too_large(lengths, columns, text) {
-        return Measured::Refused {
-            number: 2,
-            place: 0,
-        };
-    }
-    if let Place::At(y) = first_outside(lengths, text) {
-        return Measured::Refused {
-            number: 3,
-            place: y,
-        };
-    }
-    let top = trimmed_line(lengths, text, 0);
-    if !is_rule(top, b'-') {
-        return Measured::Refused {
-            number: 4,
-            place: 0,
-        };
-    }
-    let width = top.len();
-    if MAX_WIDTH < width {
-        return Measured::Refused {
-            number: 2,
-            place: 0,
-        };
-    }
-    Measured::Width(width)
-}
-
-// The checks of the slots, and tracing.
-fn trace_lines(
-    lengths: &[u16],
-    columns: &[u16],
-    text: &[u8],
-    width: usize,
-    glyphs: &mut [u8],
-    offsets: &mut [u16],
-    down: &mut [u8],
-    right: &mut [u8],
-    rects: &mut [u8],
-) -> Outcome
-    requires { ⌜ Sheet (now lengths) (now columns) (now text) ⌝ }
-    requires { ⌜ Roomy (length (now lengths)) width (now glyphs) (now offsets) ⌝ }
-    requires { ⌜ (slotSpace ≤ length (now down)) × (slotSpace ≤ length (now right)) × (rectSpace ≤ length (now rects)) ⌝ }
-    requires { ⌜ width ≡ length (trimmedAt (linesFrom (now lengths) (now columns) (now text)) 0) ⌝ }
-    ensures { λ _. ⌜ (length (now (glyphs .exit)) ≡ length (now (glyphs .entry))) × (length (now (offsets .exit)) ≡ length (now (offsets .entry))) × (length (now (rects .exit)) ≡ length (now (rects .entry))) ⌝ }
-    ensures { λ r. ⌜ Through (gridOf (linesFrom (now (lengths .entry)) (now (columns .entry)) (now (text .entry)))) (now (glyphs .exit)) (now (offsets .exit)) (now (rects .exit)) r ⌝ }
-{
-    let filled = fill(lengths, columns, text, width, glyphs, offsets);
-    let separators = filled.separators;
-    if !filled.full {
-        return Outcome {
-            number: 5,
-            place: filled.place,
-            cells: 0,
-            separators,
-        };
-    }
-    let height = lengths.len();
-    reach_right(glyphs, height, width, right);
-    reach_down(glyphs, height, width, down);
-    match trace(glyphs, down, right, height, width, rects) {
-        Traced::Covered(cells) => Outcome {
-            number: 0,
-            place: 0,
-            cells,
-            separators,
-        },
-        Traced::Stopped(number) => Outcome {
-            number,
-            place: 0,
-            cells: 0,
-            separators,
-        },
-    }
 }
 
 // Writes the four arrays.
@@ -233,7 +80,6 @@ fn finish(
     lengths: &[u16],
     columns: &[u16],
     text: &[u8],
-    width: usize,
     outcome: Outcome,
     glyphs: &[u8],
     offsets: &[u16],
@@ -243,11 +89,12 @@ fn finish(
     cells: &mut [u16],
     ranges: &mut [u16],
 ) -> LayoutAnswer
-    requires { ⌜ TracedSheet (now lengths) (now columns) (now text) width (now glyphs) (now offsets) (now rects) outcome ⌝ }
+    requires { ⌜ TracedSheet (now lengths) (now columns) (now text) (now glyphs) (now offsets) (now rects) outcome ⌝ }
     ensures { λ r. ⌜ answerOf r ≡ finishSizes (linesFrom (now (lengths .entry)) (now (columns .entry)) (now (text .entry))) (rectsOf (outcome .cells) (now (rects .entry))) (arrays (now (cols .entry)) (now (rows .entry)) (now (cells .entry)) (now (ranges .entry))) ⌝ }
     ensures { λ _. ⌜ arrays (now (cols .exit)) (now (rows .exit)) (now (cells .exit)) (now (ranges .exit)) ≡ finishArrays (linesFrom (now (lengths .entry)) (now (columns .entry)) (now (text .entry))) (rectsOf (outcome .cells) (now (rects .entry))) (arrays (now (cols .entry)) (now (rows .entry)) (now (cells .entry)) (now (ranges .entry))) ⌝ }
 {
     let height = lengths.len();
+    let width = outcome.width;
     let n = outcome.cells;
     let tops = row_bounds(rects, n, height);
     let lefts = col_bounds(rects, n, width);
@@ -312,52 +159,35 @@ pub fn layout(
     ensures { λ r. ⌜ answerOf r ≡ layoutAnswer (spaces (now (glyphs .entry)) (now (offsets .entry)) (now (down .entry)) (now (right .entry)) (now (rects .entry))) (drawing lines bytes (now (lengths .entry)) (now (columns .entry)) (now (text .entry))) (arrays (now (cols .entry)) (now (rows .entry)) (now (cells .entry)) (now (ranges .entry))) ⌝ }
     ensures { λ _. ⌜ arrays (now (cols .exit)) (now (rows .exit)) (now (cells .exit)) (now (ranges .exit)) ≡ layoutAfterwards (spaces (now (glyphs .entry)) (now (offsets .entry)) (now (down .entry)) (now (right .entry)) (now (rects .entry))) (drawing lines bytes (now (lengths .entry)) (now (columns .entry)) (now (text .entry))) (arrays (now (cols .entry)) (now (rows .entry)) (now (cells .entry)) (now (ranges .entry))) ⌝ }
 {
-    if space_short(
-        glyphs.len(),
-        offsets.len(),
-        down.len(),
-        right.len(),
-        rects.len(),
-    ) {
+    let outcome = read(
+        lines,
+        bytes,
+        lengths,
+        columns,
+        text,
+        glyphs,
+        offsets,
+        down,
+        right,
+        rects,
+    );
+    if outcome.number != 0 {
         return LayoutAnswer::Refused {
-            number: 13,
-            place: 0,
+            number: outcome.number,
+            place: outcome.place,
         };
     }
-    match checked(lines, bytes, lengths, columns, text) {
-        Measured::Refused { number, place } => LayoutAnswer::Refused { number, place },
-        Measured::Width(width) => {
-            let outcome = trace_lines(
-                lengths,
-                columns,
-                text,
-                width,
-                glyphs,
-                offsets,
-                down,
-                right,
-                rects,
-            );
-            if outcome.number != 0 {
-                return LayoutAnswer::Refused {
-                    number: outcome.number,
-                    place: outcome.place,
-                };
-            }
-            finish(
-                lengths,
-                columns,
-                text,
-                width,
-                outcome,
-                glyphs,
-                offsets,
-                rects,
-                cols,
-                rows,
-                cells,
-                ranges,
-            )
-        }
-    }
+    finish(
+        lengths,
+        columns,
+        text,
+        outcome,
+        glyphs,
+        offsets,
+        rects,
+        cols,
+        rows,
+        cells,
+        ranges,
+    )
 }

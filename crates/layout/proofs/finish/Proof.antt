@@ -37,7 +37,7 @@ mul-if1-4 c = search (needs, few-ranges)
 returns : tie.Need-returns
 returns c =
     let after = c .before .before .before in
-    refused _ _ _ _ _ _ _ _ (after .before .before .before .before .before .before .before .before .before .before .before .before .before .pre) _ _ (after .before .before .row-bounds .ensures) (after .before .col-bounds .ensures) _ (after .count-ranges .ensures) _ (c .if1 .taken)
+    refused _ _ _ _ _ _ _ (after .before .before .before .before .before .before .before .before .before .before .before .before .before .pre) _ _ (after .before .before .row-bounds .ensures) (after .before .col-bounds .ensures) _ (after .count-ranges .ensures) _ (c .if1 .taken)
 
 find-parts-requires : tie.Need-find-parts-requires
 find-parts-requires c κs = search (needs, some-line)
@@ -45,14 +45,14 @@ find-parts-requires c κs = search (needs, some-line)
 trimmed-line-requires : tie.Need-trimmed-line-requires
 trimmed-line-requires c κs =
     let t = c .before .before .before .before .before .before .before .before .before .before .before .before .before .before .before .before .before .before .before .pre in
-    (t .sheet .bytesAgree, head-line _ _ _ _ _ _ _ _ t _ (c .find-parts .ensures))
+    (t .sheet .bytesAgree, head-line _ _ _ _ _ _ _ t _ (c .find-parts .ensures))
 
 write-layout-requires : tie.Need-write-layout-requires
 write-layout-requires c κs =
     let start = c .before .before .before .before .before .before .before .before .before .before .before .before .before .before .before .before .before .before .before .before .before .before .before .before in
     let a = start .args in
     let after = c .before .before .before .before .before .before .before .before .before .before .before in
-    writable _ _ _ _ _ _ _ _ (start .pre) _ _ (after .before .before .row-bounds .ensures) (after .before .col-bounds .ensures) _ (after .count-ranges .ensures) (arrays (now (a .cols)) (now (a .rows)) (now (a .cells)) (now (a .ranges))) (c .before .before .before .before .before .before .before .before .if1 .left) _ (c .before .before .before .before .before .find-parts .ensures)
+    writable _ _ _ _ _ _ _ (start .pre) _ _ (after .before .before .row-bounds .ensures) (after .before .col-bounds .ensures) _ (after .count-ranges .ensures) (arrays (now (a .cols)) (now (a .rows)) (now (a .cells)) (now (a .ranges))) (c .before .before .before .before .before .before .before .before .if1 .left) _ (c .before .before .before .before .before .find-parts .ensures)
 
 same-length : tie.Need-same-length
 same-length c = search needs
@@ -69,7 +69,7 @@ same-length-4 c = search needs
 returns-2 : tie.Need-returns-2
 returns-2 c =
     let after = c .before .before .before .before .before .before .before .before .before .before .before .before .before .before .before .before .before .before .before .before in
-    written _ _ _ _ _ _ _ _ (after .before .before .before .before .before .before .before .before .before .before .before .before .before .pre) _ _ (after .before .before .row-bounds .ensures) (after .before .col-bounds .ensures) _ (after .count-ranges .ensures) _ (c .before .before .before .before .before .before .before .before .before .before .before .before .before .before .before .before .before .if1 .left) _ (c .before .before .before .before .before .before .before .before .before .before .before .before .before .before .find-parts .ensures) (c .before .before .before .before .before .before .before .before .before .before .before .before .before .trimmed-line .ensures) (c .before .before .before .before .before .before .before .before .write-layout .ensures)
+    written _ _ _ _ _ _ _ (after .before .before .before .before .before .before .before .before .before .before .before .before .before .pre) _ _ (after .before .before .row-bounds .ensures) (after .before .col-bounds .ensures) _ (after .count-ranges .ensures) _ (c .before .before .before .before .before .before .before .before .before .before .before .before .before .before .before .before .before .if1 .left) _ (c .before .before .before .before .before .before .before .before .before .before .before .before .before .before .find-parts .ensures) (c .before .before .before .before .before .before .before .before .before .before .before .before .before .trimmed-line .ensures) (c .before .before .before .before .before .before .before .before .write-layout .ensures)
 
 pub finish-spec : {M : Type 1} → statement M
 finish-spec =

@@ -22,17 +22,23 @@ use Rattle.slots.specs.declared.Filled.{Filled}
 use Rattle.trace.specs.Tracing.{tracedOf, countOf}
 use Rattle.trace.specs.declared.Traced as tracing
 use Rattle.trace.specs.declared.Traced.the-variants.{Covered, Stopped}
-use Rattle.layout.specs.Call.{Through}
+use Rattle.reading.specs.Call.{Through}
 
 module _ (lengths columns text rects : List ℕ) {glyphs₀ offsets₀ glyphs offsets : List ℕ} {f : Filled}
-    (all : AllFilled (gridOf (linesFrom lengths columns text)) glyphs₀ offsets₀ glyphs offsets f) where
+    (all : AllFilled (gridOf (linesFrom lengths columns text)) glyphs₀ offsets₀ glyphs offsets f)
+    {width : ℕ} (is : width ≡ length (trimmedAt (linesFrom lengths columns text) 0)) where
+  told : width ≡ gridOf (linesFrom lengths columns text) .width
+  unfolding gridOf
+  told = is
+
   pub unfilled : not (f .full) ≡ true
-      → Through (gridOf (linesFrom lengths columns text)) glyphs offsets rects (record { number = 5; place = f .place; cells = 0; separators = f .separators })
+      → Through (gridOf (linesFrom lengths columns text)) glyphs offsets rects (record { number = 5; place = f .place; width = width; cells = 0; separators = f .separators })
   unfolding gridAnswer
   unfilled fails =
       record {
         refused = λ some. rw (all .wrong (not-true (f .full) fails));
         accepted = λ z. absurd (omega arith);
+        wide = told;
         few = omega arith;
         held = λ z. absurd (omega arith);
         separatorsRoom = all .separatorsRoom;
@@ -40,21 +46,17 @@ module _ (lengths columns text rects : List ℕ) {glyphs₀ offsets₀ glyphs of
         separated = λ z. absurd (omega arith);
       }
 
-  module _ {width : ℕ} (is : width ≡ length (trimmedAt (linesFrom lengths columns text) 0)) (passes : not (f .full) ≡ false) where
+  module _ (passes : not (f .full) ≡ false) where
     full : f .full ≡ true
     full = not-false (f .full) passes
 
-    wide : gridOf (linesFrom lengths columns text) .width ≡ width
-    unfolding gridOf
-    wide = sym is
-
     traced-arrays : trace (arrayGrid (length lengths) width glyphs) ≡ trace (gridOf (linesFrom lengths columns text))
     traced-arrays =
-        rw (← wide, ← lines-length lengths columns text)
+        rw (told, ← lines-length lengths columns text)
         (sym (trace-same (gridOf (linesFrom lengths columns text)) _ (array-same (linesFrom lengths columns text) glyphs offsets (all .right full) (all .holds full))))
 
     pub through : {t : tracing.Traced} (n : ℕ) → t ≡ Covered n → tracedOf t rects ≡ trace (arrayGrid (length lengths) width glyphs) → countOf t ≤ 1024
-        → Through (gridOf (linesFrom lengths columns text)) glyphs offsets rects (record { number = 0; place = 0; cells = n; separators = f .separators })
+        → Through (gridOf (linesFrom lengths columns text)) glyphs offsets rects (record { number = 0; place = 0; width = width; cells = n; separators = f .separators })
     unfolding gridAnswer
     through {t = t} n is-covered traced few =
         let covers : covered (rectsOf n rects) ≡ trace (gridOf (linesFrom lengths columns text)) = ap (λ t. tracedOf t rects) (sym is-covered) ∙ traced ∙ traced-arrays in
@@ -62,6 +64,7 @@ module _ (lengths columns text rects : List ℕ) {glyphs₀ offsets₀ glyphs of
         record {
           refused = λ some. absurd (some refl);
           accepted = λ z. rw (all .right full, ← covers);
+          wide = told;
           few = omega arith;
           held = λ z. all .holds full;
           separatorsRoom = all .separatorsRoom;
@@ -70,7 +73,7 @@ module _ (lengths columns text rects : List ℕ) {glyphs₀ offsets₀ glyphs of
         }
 
     pub not-through : {t : tracing.Traced} (number : ℕ) → t ≡ Stopped number → tracedOf t rects ≡ trace (arrayGrid (length lengths) width glyphs)
-        → Through (gridOf (linesFrom lengths columns text)) glyphs offsets rects (record { number = number; place = 0; cells = 0; separators = f .separators })
+        → Through (gridOf (linesFrom lengths columns text)) glyphs offsets rects (record { number = number; place = 0; width = width; cells = 0; separators = f .separators })
     unfolding gridAnswer
     not-through {t = t} number is-stopped traced =
         let stops : stopped number ≡ trace (gridOf (linesFrom lengths columns text)) = ap (λ t. tracedOf t rects) (sym is-stopped) ∙ traced ∙ traced-arrays in
@@ -79,6 +82,7 @@ module _ (lengths columns text rects : List ℕ) {glyphs₀ offsets₀ glyphs of
         record {
           refused = λ some. rw (all .right full, ← stops);
           accepted = λ z. absurd (some z);
+          wide = told;
           few = omega arith;
           held = λ z. absurd (some z);
           separatorsRoom = all .separatorsRoom;

@@ -1,4 +1,4 @@
--- `layout::trimmed_line` meets its contract. The invariant: the lines before i end at byte `at`.
+-- `reading::trimmed_line` meets its contract. The invariant: the lines before i end at byte `at`.
 -- Assumes nothing.
 use Prim.Native.Nat.{_-_, _≤_}
 use mathlib.Core.Path.{_≡_}
@@ -7,10 +7,10 @@ use mir.Facts.{fits-16-64}
 use lib.ListN.{take}
 use Rattle.seq.specs.Lists.{sum}
 use Rattle.seq.proofs.Gathered.{sum-within}
-use Rattle.layout.proofs.CheckedLaws.{line-passed, line-end, line-trimmed}
+use Rattle.reading.proofs.CheckedLaws.{line-passed, line-end, line-trimmed}
 use borrow.Author.Needs.{needs}
-use Rattle.layout.proofs.trimmed_line.Statement.{statement}
-use Rattle.layout.proofs.trimmed_line.Tie as tie
+use Rattle.reading.proofs.trimmed_line.Statement.{statement}
+use Rattle.reading.proofs.trimmed_line.Tie as tie
 
 abbrev Inv-loop : tie.InvT-loop
 Inv-loop lengths text y at₀ i₀ at i = (i ≤ y) × (at ≡ sum (take i lengths))

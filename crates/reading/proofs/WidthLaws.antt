@@ -12,22 +12,19 @@ use Rattle.seq.specs.Lists.{any, isEmpty}
 use Rattle.seq.proofs.Tests.{true-not-false}
 use Rattle.grid.specs.Answer.{accept, refuse, refuseIf, refuseAt}
 use Rattle.grid.specs.Limits.{maxLines, maxLineBytes, maxBytes, maxWidth, maxOrigin}
-use Rattle.grid.specs.Slots.{trimmedAt, gridOf}
+use Rattle.grid.specs.Slots.{trimmedAt}
 use Rattle.grid.specs.Read.{drawingTooLarge, outsideSet, noRule}
 use Rattle.grid.specs.Flat.{FlatDrawing, drawingContradicts, linesFrom, linesOf}
-use Rattle.grid.specs.LayoutCall.{LayoutSpace, LayoutArrays, slotSpace, rectSpace, spaceShort, layoutAnswer, layoutAfterwards}
-use Rattle.grid.specs.LayoutParts.{widthAnswer, finishSizes, finishArrays}
-use Rattle.grid.specs.Arrays.{rectsOf}
-use Rattle.grid.proofs.LayoutPartsLaws.{untraced-answer, untraced-arrays, traced-answer, traced-arrays}
+use Rattle.grid.specs.LayoutCall.{slotSpace, rectSpace, spaceShort}
+use Rattle.grid.specs.LayoutParts.{widthAnswer}
 use Rattle.grid.proofs.ReadLaws.{passed-if, passed-at}
 use Rattle.entries.specs.Checks.{Agree, anyOver}
 use Rattle.entries.proofs.CheckLaws.{limits-apart}
 use Rattle.slots.specs.Filling.{Sheet}
-use Rattle.layout.specs.declared.Measured.{Measured}
-use Rattle.layout.specs.declared.Measured.the-variants.{Width, Refused}
-use Rattle.layout.specs.declared.Outcome.{Outcome}
-use Rattle.layout.specs.Call.{spaces, drawing, checkedOf, Through}
-use Rattle.layout.proofs.CheckedLaws.{agrees}
+use Rattle.reading.specs.declared.Measured.{Measured}
+use Rattle.reading.specs.declared.Measured.the-variants.{Width, Refused}
+use Rattle.reading.specs.Call.{spaces, drawing, checkedOf}
+use Rattle.reading.proofs.CheckedLaws.{agrees}
 
 pub both-false : (s t : Bool) → s || t ≡ false → (s ≡ false) × (t ≡ false)
 both-false true t e = absurd (true-not-false e)
@@ -118,25 +115,3 @@ width-refused m number place d f e = rw f at e
 
 pub width-accepted : (m : Measured) (width : ℕ) (d : FlatDrawing) → m ≡ Width width → checkedOf m ≡ widthAnswer d → accept width ≡ widthAnswer d
 width-accepted m width d f e = rw f at e
-
--- ---- after tracing
-module _ (w : LayoutSpace) (lines bytes : ℕ) (lengths columns text : List ℕ) (out : LayoutArrays) (enough : spaceShort w ≡ false)
-    (width : ℕ) (e : accept width ≡ widthAnswer (drawing lines bytes lengths columns text))
-    (glyphs offsets rects : List ℕ) (s : Outcome) (t : Through (gridOf (linesFrom lengths columns text)) glyphs offsets rects s) where
-  module _ (h : s .number ≡ 0 → ⊥) where
-    pub stopped-answer : refuse (s .number) (s .place) ≡ layoutAnswer w (drawing lines bytes lengths columns text) out
-    unfolding linesOf
-    stopped-answer = untraced-answer w (drawing lines bytes lengths columns text) out enough width e (s .number) (s .place) (t .refused h)
-
-    pub stopped-arrays : out ≡ layoutAfterwards w (drawing lines bytes lengths columns text) out
-    unfolding linesOf
-    stopped-arrays = untraced-arrays w (drawing lines bytes lengths columns text) out enough width e (s .number) (s .place) (t .refused h)
-
-  module _ (h : s .number ≡ 0) where
-    pub finished-answer : finishSizes (linesFrom lengths columns text) (rectsOf (s .cells) rects) out ≡ layoutAnswer w (drawing lines bytes lengths columns text) out
-    unfolding linesOf
-    finished-answer = traced-answer w (drawing lines bytes lengths columns text) out enough width e (rectsOf (s .cells) rects) (t .accepted h)
-
-    pub finished-arrays : finishArrays (linesFrom lengths columns text) (rectsOf (s .cells) rects) out ≡ layoutAfterwards w (drawing lines bytes lengths columns text) out
-    unfolding linesOf
-    finished-arrays = traced-arrays w (drawing lines bytes lengths columns text) out enough width e (rectsOf (s .cells) rects) (t .accepted h)

@@ -1,9 +1,9 @@
 -- What the callees ensure, put together; `ThroughLaws` gives the answer at each return.
 use mathlib.Core.Path.{refl}
 use borrow.Author.Needs.{needs}
-use Rattle.layout.proofs.ThroughLaws.{unfilled, through, not-through}
-use Rattle.layout.proofs.trace_lines.Statement.{statement}
-use Rattle.layout.proofs.trace_lines.Tie as tie
+use Rattle.reading.proofs.ThroughLaws.{unfilled, through, not-through}
+use Rattle.reading.proofs.trace_lines.Statement.{statement}
+use Rattle.reading.proofs.trace_lines.Tie as tie
 
 fill-requires : tie.Need-fill-requires
 fill-requires c κs = search needs
@@ -17,7 +17,7 @@ same-length-2 c = search needs
 returns : tie.Need-returns
 returns c =
     let all = c .before .before .before .before .before .before .before .fill .ensures in
-    ((all .glyphsKept, all .offsetsKept, refl), unfilled _ _ _ _ all (c .if1 .taken))
+    ((all .glyphsKept, all .offsetsKept, refl), unfilled _ _ _ _ all (c .before .before .before .before .before .before .before .before .before .before .before .before .before .before .before .before .before .before .pre .1 .1 .1) (c .if1 .taken))
 
 reach-right-requires : tie.Need-reach-right-requires
 reach-right-requires c κs = search needs

@@ -24,7 +24,7 @@ use Rattle.grid.specs.LayoutParts.{widthAnswer}
 use Rattle.entries.specs.Checks.{Agree, placeOf}
 use Rattle.entries.specs.declared.Place.{Place}
 use Rattle.entries.specs.declared.Place.the-variants.{At, Nowhere}
-use Rattle.layout.specs.Call.{drawing}
+use Rattle.reading.specs.Call.{drawing}
 
 -- ---- a line of a text back to back
 text-at : (lengths text : List ℕ) (y : ℕ) → y < length lengths → getD (splitText lengths text) y [] ≡ take (getD lengths y 0) (drop (sum (take y lengths)) text)

@@ -1,9 +1,9 @@
--- `layout::space_short` meets its contract: by computing.
+-- `reading::space_short` meets its contract: by computing.
 -- Assumes nothing.
 use mathlib.Core.Path.{refl}
 use Rattle.grid.specs.LayoutCall.{spaceShort}
-use Rattle.layout.proofs.space_short.Statement.{statement}
-use Rattle.layout.proofs.space_short.Tie as tie
+use Rattle.reading.proofs.space_short.Statement.{statement}
+use Rattle.reading.proofs.space_short.Tie as tie
 
 returns : tie.Need-returns
 unfolding spaceShort

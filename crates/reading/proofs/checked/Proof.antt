@@ -1,9 +1,9 @@
--- `layout::checked` meets its contract: each return by its law.
+-- `reading::checked` meets its contract: each return by its law.
 -- Assumes nothing.
-use Rattle.layout.proofs.CheckedLaws.{contradicted, adds-up, agrees, no-lines, some-length, large, outside, no-rule, too-wide, measured}
+use Rattle.reading.proofs.CheckedLaws.{contradicted, adds-up, agrees, no-lines, some-length, large, outside, no-rule, too-wide, measured}
 use borrow.Author.Needs.{needs}
-use Rattle.layout.proofs.checked.Statement.{statement}
-use Rattle.layout.proofs.checked.Tie as tie
+use Rattle.reading.proofs.checked.Statement.{statement}
+use Rattle.reading.proofs.checked.Tie as tie
 
 contradicts-requires : tie.Need-contradicts-requires
 contradicts-requires c κs = search needs

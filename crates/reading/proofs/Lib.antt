@@ -1,0 +1,4 @@
+pub mod ThroughLaws
+pub mod CheckedLaws
+pub mod WidthLaws
+pub mod ReadingLaws

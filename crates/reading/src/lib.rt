@@ -1,0 +1,227 @@
+// Reading a drawing up to its traced rectangles, in the order of the checks (layout.rs: layout).
+use entries::Place;
+use entries::check::contradicts;
+use entries::check::first_outside;
+use entries::check::too_large;
+use slots::Separators;
+use slots::fill::fill;
+use slots::reach::reach_down;
+use slots::reach::reach_right;
+use text::rule::is_rule;
+use text::trim::trim_end;
+use trace::Traced;
+use trace::tracing::trace;
+ghost use Prim.Native.Nat.{_-_, _≤_, _<_};
+ghost use mathlib.Core.Path.{_≡_};
+ghost use mathlib.Core.List.{[]};
+ghost use lib.ListN.{length, getD};
+ghost use Rattle.seq.specs.Lists.{sum};
+ghost use Rattle.text.specs.Trim.{trimEnd};
+ghost use Rattle.grid.specs.Slots.{gridOf, trimmedAt};
+ghost use Rattle.grid.specs.Flat.{splitText, linesFrom};
+ghost use Rattle.grid.specs.LayoutCall.{slotSpace, rectSpace, spaceShort};
+ghost use Rattle.grid.specs.LayoutParts.{rectsAnswer, widthAnswer};
+ghost use Rattle.grid.specs.Arrays.{Roomy};
+ghost use Rattle.slots.specs.Filling.{Sheet};
+ghost use Rattle.reading.specs.Call.{spaces, drawing, checkedOf, Through, Reading};
+
+const SLOT_SPACE: usize = 16384;
+
+const RECT_SPACE: usize = 4096;
+
+const MAX_WIDTH: usize = 128;
+
+// What the checks up to the width give.
+pub enum Measured {
+    Width(usize),
+    Refused { number: usize, place: usize },
+}
+
+// What reading a drawing gives: number 0, its width, how many rectangles and the separators; or the
+// refusal.
+pub struct Outcome {
+    pub number: usize,
+    pub place: usize,
+    pub width: usize,
+    pub cells: usize,
+    pub separators: Separators,
+}
+
+// 13, of the working space.
+fn space_short(glyphs: usize, offsets: usize, down: usize, right: usize, rects: usize) -> bool
+    ensures { λ r. ⌜ r ≡ spaceShort (record { glyphs = glyphs; offsets = offsets; down = down; right = right; rects = rects }) ⌝ }
+{
+    (glyphs < SLOT_SPACE)
+        | (offsets < SLOT_SPACE)
+        | (down < SLOT_SPACE)
+        | (right < SLOT_SPACE)
+        | (rects < RECT_SPACE)
+}
+
+// Line y, trimmed: a part of the text.
+pub fn trimmed_line<'a>(lengths: &[u16], text: &'a [u8], y: usize) -> &'a [u8]
+    requires { ⌜ (sum (now lengths) ≡ length (now text)) × (y < length (now lengths)) ⌝ }
+    ensures { λ r. ⌜ now r ≡ trimEnd (getD (splitText (now (lengths .entry)) (now (text .entry))) y []) ⌝ }
+{
+    let mut at = 0;
+    let mut i = 0;
+    while i < y {
+        at += lengths[i] as usize;
+        i += 1;
+    }
+    let end = at + lengths[y] as usize;
+    trim_end(&text[at..end])
+}
+
+// The checks up to the width.
+fn checked(lines: usize, bytes: usize, lengths: &[u16], columns: &[u16], text: &[u8]) -> Measured
+    ensures { λ r. ⌜ checkedOf r ≡ widthAnswer (drawing lines bytes (now (lengths .entry)) (now (columns .entry)) (now (text .entry))) ⌝ }
+{
+    if contradicts(lines, bytes, lengths, columns, text) {
+        return Measured::Refused {
+            number: 13,
+            place: 0,
+        };
+    }
+    if lines == 0 {
+        return Measured::Refused {
+            number: 1,
+            place: 0,
+        };
+    }
+    if too_large(lengths, columns, text) {
+        return Measured::Refused {
+            number: 2,
+            place: 0,
+        };
+    }
+    if let Place::At(y) = first_outside(lengths, text) {
+        return Measured::Refused {
+            number: 3,
+            place: y,
+        };
+    }
+    let top = trimmed_line(lengths, text, 0);
+    if !is_rule(top, b'-') {
+        return Measured::Refused {
+            number: 4,
+            place: 0,
+        };
+    }
+    let width = top.len();
+    if MAX_WIDTH < width {
+        return Measured::Refused {
+            number: 2,
+            place: 0,
+        };
+    }
+    Measured::Width(width)
+}
+
+// The checks of the slots, and tracing.
+fn trace_lines(
+    lengths: &[u16],
+    columns: &[u16],
+    text: &[u8],
+    width: usize,
+    glyphs: &mut [u8],
+    offsets: &mut [u16],
+    down: &mut [u8],
+    right: &mut [u8],
+    rects: &mut [u8],
+) -> Outcome
+    requires { ⌜ Sheet (now lengths) (now columns) (now text) ⌝ }
+    requires { ⌜ Roomy (length (now lengths)) width (now glyphs) (now offsets) ⌝ }
+    requires { ⌜ (slotSpace ≤ length (now down)) × (slotSpace ≤ length (now right)) × (rectSpace ≤ length (now rects)) ⌝ }
+    requires { ⌜ width ≡ length (trimmedAt (linesFrom (now lengths) (now columns) (now text)) 0) ⌝ }
+    ensures { λ _. ⌜ (length (now (glyphs .exit)) ≡ length (now (glyphs .entry))) × (length (now (offsets .exit)) ≡ length (now (offsets .entry))) × (length (now (rects .exit)) ≡ length (now (rects .entry))) ⌝ }
+    ensures { λ r. ⌜ Through (gridOf (linesFrom (now (lengths .entry)) (now (columns .entry)) (now (text .entry)))) (now (glyphs .exit)) (now (offsets .exit)) (now (rects .exit)) r ⌝ }
+{
+    let filled = fill(lengths, columns, text, width, glyphs, offsets);
+    let separators = filled.separators;
+    if !filled.full {
+        return Outcome {
+            number: 5,
+            place: filled.place,
+            width,
+            cells: 0,
+            separators,
+        };
+    }
+    let height = lengths.len();
+    reach_right(glyphs, height, width, right);
+    reach_down(glyphs, height, width, down);
+    match trace(glyphs, down, right, height, width, rects) {
+        Traced::Covered(cells) => Outcome {
+            number: 0,
+            place: 0,
+            width,
+            cells,
+            separators,
+        },
+        Traced::Stopped(number) => Outcome {
+            number,
+            place: 0,
+            width,
+            cells: 0,
+            separators,
+        },
+    }
+}
+
+// A refusal, with nothing read.
+fn refusal(number: usize, place: usize) -> Outcome
+    ensures { λ r. ⌜ (r .number ≡ number) × (r .place ≡ place) × (r .cells ≡ 0) ⌝ }
+{
+    Outcome {
+        number,
+        place,
+        width: 0,
+        cells: 0,
+        separators: Separators {
+            lines: [0; 128],
+            count: 0,
+        },
+    }
+}
+
+// A drawing read up to its rectangles. Working space: glyphs, offsets, down and right of 16,384
+// entries each, rects of 4,096.
+pub fn read(
+    lines: usize,
+    bytes: usize,
+    lengths: &[u16],
+    columns: &[u16],
+    text: &[u8],
+    glyphs: &mut [u8],
+    offsets: &mut [u16],
+    down: &mut [u8],
+    right: &mut [u8],
+    rects: &mut [u8],
+) -> Outcome
+    ensures { λ r. ⌜ Reading (rectsAnswer (spaces (now (glyphs .entry)) (now (offsets .entry)) (now (down .entry)) (now (right .entry)) (now (rects .entry))) (drawing lines bytes (now (lengths .entry)) (now (columns .entry)) (now (text .entry)))) (now (lengths .entry)) (now (columns .entry)) (now (text .entry)) (now (glyphs .exit)) (now (offsets .exit)) (now (rects .exit)) r ⌝ }
+{
+    if space_short(
+        glyphs.len(),
+        offsets.len(),
+        down.len(),
+        right.len(),
+        rects.len(),
+    ) {
+        return refusal(13, 0);
+    }
+    match checked(lines, bytes, lengths, columns, text) {
+        Measured::Refused { number, place } => refusal(number, place),
+        Measured::Width(width) => trace_lines(
+            lengths,
+            columns,
+            text,
+            width,
+            glyphs,
+            offsets,
+            down,
+            right,
+            rects,
+        ),
+    }
+}

@@ -17,3 +17,4 @@ pub mod EntryLaws
 pub mod FlatLaws
 pub mod ByteLaws
 pub mod SizeLaws
+pub mod CutLaws

@@ -26,6 +26,10 @@ pub or-cases : (t u : Bool) → t || u ≡ true → (t ≡ true) ⊎ (u ≡ true
 or-cases true u e = inl refl
 or-cases false u e = inr e
 
+pub or-neither : (t u : Bool) → t || u ≡ false → (t ≡ false) × (u ≡ false)
+or-neither true u e = absurd (true-not-false e)
+or-neither false u e = (refl, e)
+
 pub or-left : {t : Bool} (u : Bool) → t ≡ true → t || u ≡ true
 or-left {t} u e = rw e
 

@@ -77,3 +77,13 @@ trim-again (b ∷ bs) = go (trimEnd bs) (trim-again bs) where
     ends true e = refl
     ends false e = rw e
   go (c ∷ cs) e = ap (beforeTrimmed b) e
+
+pub trim-rest : (b : ℕ) (bs : List ℕ) → trimEnd (b ∷ bs) ≡ b ∷ bs → trimEnd bs ≡ bs
+unfolding trimEnd
+trim-rest b bs e = go (trimEnd bs) e where
+  go : (t : List ℕ) → beforeTrimmed b t ≡ b ∷ bs → t ≡ bs
+  go [] e = ends (blank b) e where
+    ends : (t : Bool) → cond t [] (b ∷ []) ≡ b ∷ bs → [] ≡ bs
+    ends true e = let z : _≡_ {A = ℕ} 0 1 = cc in absurd (omega arith)
+    ends false e = cc
+  go (c ∷ cs) e = cc

@@ -21,6 +21,13 @@ fn is_continuation(b: u32) -> bool
     within(0x80, 0xbf, b)
 }
 
+// Does the byte there go on with a character? None does past the end.
+pub fn continues_at(text: &[u8], at: ByteAt) -> bool
+    ensures { λ r. ⌜ r ≡ continues (getD (now (text .entry)) (at .0) 0) ⌝ }
+{
+    is_continuation(byte_or_zero(text, at.0) as u32)
+}
+
 fn character_if(known: bool, value: u32, size: usize) -> Decoded
     ensures { λ r. ⌜ r ≡ characterIf known value size ⌝ }
 {

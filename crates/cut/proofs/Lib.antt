@@ -1,0 +1,3 @@
+pub mod FirstLaws
+pub mod CallLaws
+pub mod TextLaws

@@ -1,0 +1,29 @@
+-- `cut::cell_fragment` meets its contract: each return by its law.
+-- Assumes nothing.
+use Rattle.cut.proofs.CallLaws.{refused-13, refused-2, checked, accepted}
+use borrow.Author.Needs.{needs}
+use Rattle.cut.proofs.cell_fragment.Statement.{statement}
+use Rattle.cut.proofs.cell_fragment.Tie as tie
+
+bad-range-requires : tie.Need-bad-range-requires
+bad-range-requires c κs = search needs
+
+too-large-requires : tie.Need-too-large-requires
+too-large-requires c κs = search needs
+
+returns : tie.Need-returns
+returns c = search (needs, refused-13)
+
+returns-2 : tie.Need-returns-2
+returns-2 c = search (needs, refused-2)
+
+cut-part-requires : tie.Need-cut-part-requires
+cut-part-requires c κs = search (needs, checked)
+
+returns-3 : tie.Need-returns-3
+returns-3 c = search (needs, accepted)
+
+pub cell-fragment-spec : {M : Type 1} → statement M
+cell-fragment-spec =
+    tie.close
+    (tie.spec bad-range-requires too-large-requires returns returns-2 cut-part-requires returns-3)

@@ -1,0 +1,43 @@
+-- The arguments and answers of the cutting calls, in the terms of the definitions. Document 01, "Cutting".
+use Prim.Native.Nat.{ℕ, _+_, _-_, _≤_}
+use mathlib.Core.Path.{_≡_}
+use mathlib.Core.List.{List}
+use lib.ListN.{length, drop}
+use Rattle.text.specs.declared.ByteAt.{ByteAt}
+use Rattle.text.specs.declared.Column.{Column}
+use Rattle.grid.specs.Answer.{Answer, accept, refuse}
+use Rattle.grid.specs.Limits.{maxLineBytes, maxOrigin, maxLeft, maxRegister}
+use Rattle.grid.specs.Values.{Line, Range}
+use Rattle.grid.specs.Cut.{afterFirst}
+use Rattle.grid.specs.CutCall.{CutNumbers}
+use Rattle.cut.specs.declared.Start.{Start}
+use Rattle.cut.specs.declared.Cut.{Cut}
+use Rattle.cut.specs.declared.Cut.the-variants.{Accepted, Refused}
+
+-- "What a call gives back": the number, place and values for each case of the answer
+abbrev pub answerOf : Cut → Answer CutNumbers
+answerOf (Accepted start end line byte column) =
+    accept (record { start = start .0; end = end .0; line = line; byte = byte .0; column = column .0 })
+answerOf (Refused number place) = refuse number place
+
+-- the arguments as given
+abbrev pub lineOf : List ℕ → Column → Line
+lineOf text column = record { text = text; column = column .0 }
+
+abbrev pub range : ByteAt → ByteAt → Range
+range start end = record { start = start .0; end = end .0 }
+
+-- what the checks leave: a range inside its line, and numbers so small that no sum of them wraps
+pub record Checked (text : List ℕ) (column : Column) (tableByte start end : ByteAt) (left : Column) : Type 0 where
+  pub forward : start .0 ≤ end .0
+  pub inside : end .0 ≤ length text
+  pub short : length text ≤ maxLineBytes
+  pub lowColumn : column .0 ≤ maxOrigin
+  pub lowByte : tableByte .0 ≤ maxRegister
+  pub lowLeft : left .0 ≤ maxLeft
+
+-- "A first space, or a first tab that takes one column, is dropped": where a trimmed text from byte and column on starts without it
+pub record Begins (text : List ℕ) (byte : ByteAt) (column : Column) (r : Start) : Type 0 where
+  pub inside : (byte .0 ≤ r .byte .0) × (r .byte .0 ≤ byte .0 + length text)
+  pub begun : (line tableByte : ℕ) → afterFirst text line (tableByte + byte .0) (column .0)
+      ≡ record { text = drop (r .byte .0 - byte .0) text; line = line; byte = tableByte + r .byte .0; column = r .column .0 }

@@ -1,0 +1,178 @@
+// Cutting one line of a cell (mod.rs: cell_fragment).
+use text::ByteAt;
+use text::Column;
+use text::characters::tab_columns;
+use text::trim::trim_end;
+use text::utf8::continues_at;
+ghost use Prim.Native.Nat.{_<_};
+ghost use mathlib.Core.Path.{_≡_};
+ghost use Rattle.grid.specs.Answer.{accept};
+ghost use Rattle.grid.specs.Cut.{cut as cutOf};
+ghost use Rattle.grid.specs.CutCall.{badRange, cutTooLarge, cutNumbers, cutNumbersAnswer, cutText};
+ghost use Rattle.cut.specs.Call.{answerOf, lineOf, range, Checked, Begins};
+
+const MAX_LINE_BYTES: usize = 512;
+
+const MAX_ORIGIN: usize = 255;
+
+const MAX_LEFT: usize = 127;
+
+const MAX_REGISTER: usize = 65535;
+
+// Where a text starts: its byte and its column.
+pub struct Start {
+    pub byte: ByteAt,
+    pub column: Column,
+}
+
+// Where the cut text starts and ends in the line given, and its line, byte and column; or a refusal.
+pub enum Cut {
+    Accepted {
+        start: ByteAt,
+        end: ByteAt,
+        line: usize,
+        byte: ByteAt,
+        column: Column,
+    },
+    Refused {
+        number: usize,
+        place: usize,
+    },
+}
+
+// 13.
+fn bad_range(text: &[u8], start: ByteAt, end: ByteAt) -> bool
+    ensures { λ r. ⌜ r ≡ badRange (range start end) (now (text .entry)) ⌝ }
+{
+    (end.0 < start.0) | (text.len() < end.0) | continues_at(text, start) | continues_at(text, end)
+}
+
+// 2.
+fn too_large(text: &[u8], column: Column, line: usize, table_byte: ByteAt, left: Column) -> bool
+    ensures { λ r. ⌜ r ≡ cutTooLarge (lineOf (now (text .entry)) column) line («table_byte» .0) (left .0) ⌝ }
+{
+    (MAX_LINE_BYTES < text.len())
+        | (MAX_ORIGIN < column.0)
+        | (MAX_LEFT < left.0)
+        | (MAX_REGISTER < line)
+        | (MAX_REGISTER < table_byte.0)
+}
+
+// Where a trimmed text from this byte and column on starts without its first space or one-column
+// tab. A wider tab stays, and only the column moves.
+fn after_first(text: &[u8], byte: ByteAt, column: Column) -> Start
+    requires { ⌜ (byte .0 < 65536) × (column .0 < 65536) ⌝ }
+    ensures { λ r. ⌜ Begins (now (text .entry)) byte column r ⌝ }
+{
+    if text.len() == 0 {
+        return Start { byte, column };
+    }
+    let first = text[0];
+    let past = ByteAt(byte.0 + 1);
+    let next = Column(column.0 + 1);
+    if first == b' ' {
+        return Start {
+            byte: past,
+            column: next,
+        };
+    }
+    if first != b'\t' {
+        return Start { byte, column };
+    }
+    if tab_columns(column) == 1 {
+        return Start {
+            byte: past,
+            column: next,
+        };
+    }
+    Start { byte, column: next }
+}
+
+// The part between the borders, trimmed at its end and then cut at its first byte.
+fn cut_part(
+    text: &[u8],
+    column: Column,
+    line: usize,
+    table_byte: ByteAt,
+    start: ByteAt,
+    end: ByteAt,
+    left: Column,
+) -> Cut
+    requires { ⌜ Checked (now text) column «table_byte» start end left ⌝ }
+    ensures { λ r. ⌜ answerOf r ≡ accept (cutNumbers («table_byte» .0) (cutOf (lineOf (now (text .entry)) column) line («table_byte» .0) (range start end) (left .0))) ⌝ }
+{
+    let from = start.0;
+    let to = end.0;
+    let part = &text[from..to];
+    let trimmed = trim_end(part);
+    let begun = after_first(trimmed, start, Column(column.0 + left.0 + 1));
+    let first = begun.byte;
+    let at = begun.column;
+    Cut::Accepted {
+        start: first,
+        end: ByteAt(from + trimmed.len()),
+        line,
+        byte: ByteAt(table_byte.0 + first.0),
+        column: at,
+    }
+}
+
+// One line of a cell, cut.
+pub fn cell_fragment(
+    text: &[u8],
+    column: Column,
+    line: usize,
+    table_byte: ByteAt,
+    start: ByteAt,
+    end: ByteAt,
+    left: Column,
+) -> Cut
+    ensures { λ r. ⌜ answerOf r ≡ cutNumbersAnswer (lineOf (now (text .entry)) column) line («table_byte» .0) (range start end) (left .0) ⌝ }
+{
+    let bad = bad_range(text, start, end);
+    let large = too_large(text, column, line, table_byte, left);
+    if bad {
+        return Cut::Refused {
+            number: 13,
+            place: 0,
+        };
+    }
+    if large {
+        return Cut::Refused {
+            number: 2,
+            place: 0,
+        };
+    }
+    cut_part(text, column, line, table_byte, start, end, left)
+}
+
+// The cut text as a part of the line given; the empty part where the call above refuses.
+pub fn cell_text<'a>(
+    text: &'a [u8],
+    column: Column,
+    line: usize,
+    table_byte: ByteAt,
+    start: ByteAt,
+    end: ByteAt,
+    left: Column,
+) -> &'a [u8]
+    ensures { λ r. ⌜ now r ≡ cutText (lineOf (now (text .entry)) column) line («table_byte» .0) (range start end) (left .0) ⌝ }
+{
+    match cell_fragment(text, column, line, table_byte, start, end, left) {
+        Cut::Accepted {
+            start: first,
+            end: last,
+            line: _,
+            byte: _,
+            column: _,
+        } => {
+            let from = first.0;
+            let to = last.0;
+            &text[from..to]
+        }
+        Cut::Refused {
+            number: _,
+            place: _,
+        } => &text[0..0],
+    }
+}

@@ -6,10 +6,8 @@ use text::trim::trim_end;
 use text::utf8::continues_at;
 ghost use Prim.Native.Nat.{_<_};
 ghost use mathlib.Core.Path.{_≡_};
-ghost use Rattle.grid.specs.Answer.{accept};
-ghost use Rattle.grid.specs.Cut.{cut as cutOf};
-ghost use Rattle.grid.specs.CutCall.{badRange, cutTooLarge, cutNumbers, cutNumbersAnswer, cutText};
-ghost use Rattle.cut.specs.Call.{answerOf, lineOf, range, Checked, Begins};
+ghost use Rattle.grid.specs.CutCall.{badRange, cutTooLarge, cutNumbersAnswer, cutText};
+ghost use Rattle.cut.specs.Call.{answerOf, lineOf, range, Checked, Begins, Pieced};
 
 const MAX_LINE_BYTES: usize = 512;
 
@@ -22,6 +20,13 @@ const MAX_REGISTER: usize = 65535;
 // Where a text starts: its byte and its column.
 pub struct Start {
     pub byte: ByteAt,
+    pub column: Column,
+}
+
+// Where the cut text starts and ends in the line given, and its column.
+pub struct Piece {
+    pub start: ByteAt,
+    pub end: ByteAt,
     pub column: Column,
 }
 
@@ -89,17 +94,9 @@ fn after_first(text: &[u8], byte: ByteAt, column: Column) -> Start
 }
 
 // The part between the borders, trimmed at its end and then cut at its first byte.
-fn cut_part(
-    text: &[u8],
-    column: Column,
-    line: usize,
-    table_byte: ByteAt,
-    start: ByteAt,
-    end: ByteAt,
-    left: Column,
-) -> Cut
-    requires { ⌜ Checked (now text) column «table_byte» start end left ⌝ }
-    ensures { λ r. ⌜ answerOf r ≡ accept (cutNumbers («table_byte» .0) (cutOf (lineOf (now (text .entry)) column) line («table_byte» .0) (range start end) (left .0))) ⌝ }
+pub fn cut_part(text: &[u8], column: Column, start: ByteAt, end: ByteAt, left: Column) -> Piece
+    requires { ⌜ Checked (now text) column start end left ⌝ }
+    ensures { λ r. ⌜ Pieced (now (text .entry)) column start end left r ⌝ }
 {
     let from = start.0;
     let to = end.0;
@@ -108,11 +105,9 @@ fn cut_part(
     let begun = after_first(trimmed, start, Column(column.0 + left.0 + 1));
     let first = begun.byte;
     let at = begun.column;
-    Cut::Accepted {
+    Piece {
         start: first,
         end: ByteAt(from + trimmed.len()),
-        line,
-        byte: ByteAt(table_byte.0 + first.0),
         column: at,
     }
 }
@@ -143,7 +138,17 @@ pub fn cell_fragment(
             place: 0,
         };
     }
-    cut_part(text, column, line, table_byte, start, end, left)
+    let piece = cut_part(text, column, start, end, left);
+    let first = piece.start;
+    let last = piece.end;
+    let at = piece.column;
+    Cut::Accepted {
+        start: first,
+        end: last,
+        line,
+        byte: ByteAt(table_byte.0 + first.0),
+        column: at,
+    }
 }
 
 // The cut text as a part of the line given; the empty part where the call above refuses.

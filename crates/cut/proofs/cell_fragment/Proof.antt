@@ -1,7 +1,7 @@
 -- `cut::cell_fragment` meets its contract: each return by its law.
 -- Assumes nothing.
-use Rattle.cut.proofs.CallLaws.{refused-13, refused-2, checked, accepted}
 use borrow.Author.Needs.{needs}
+use Rattle.cut.proofs.CallLaws.{refused-13, refused-2, checked, low-byte, accepted}
 use Rattle.cut.proofs.cell_fragment.Statement.{statement}
 use Rattle.cut.proofs.cell_fragment.Tie as tie
 
@@ -20,10 +20,20 @@ returns-2 c = search (needs, refused-2)
 cut-part-requires : tie.Need-cut-part-requires
 cut-part-requires c κs = search (needs, checked)
 
+add-t15 : tie.Need-add-t15
+add-t15 c = search (needs, low-byte)
+
 returns-3 : tie.Need-returns-3
 returns-3 c = search (needs, accepted)
 
 pub cell-fragment-spec : {M : Type 1} → statement M
 cell-fragment-spec =
     tie.close
-    (tie.spec bad-range-requires too-large-requires returns returns-2 cut-part-requires returns-3)
+    (tie.spec
+    bad-range-requires
+    too-large-requires
+    returns
+    returns-2
+    cut-part-requires
+    add-t15
+    returns-3)

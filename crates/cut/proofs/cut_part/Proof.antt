@@ -1,7 +1,7 @@
 -- `cut::cut_part` meets its contract: from its calls.
 -- Assumes nothing.
-use Rattle.cut.proofs.CallLaws.{cut-told}
 use borrow.Author.Needs.{needs}
+use Rattle.cut.proofs.CallLaws.{pieced}
 use Rattle.cut.proofs.cut_part.Statement.{statement}
 use Rattle.cut.proofs.cut_part.Tie as tie
 
@@ -17,23 +17,20 @@ part-part-end c = search needs
 trim-end-requires : tie.Need-trim-end-requires
 trim-end-requires c κs = search needs
 
+add-t14 : tie.Need-add-t14
+add-t14 c = search needs
+
 add-t16 : tie.Need-add-t16
 add-t16 c = search needs
-
-add-t18 : tie.Need-add-t18
-add-t18 c = search needs
 
 after-first-requires : tie.Need-after-first-requires
 after-first-requires c κs = search needs
 
-add-t18-2 : tie.Need-add-t18-2
-add-t18-2 c = search needs
-
-add-t21 : tie.Need-add-t21
-add-t21 c = search needs
+add-t16-2 : tie.Need-add-t16-2
+add-t16-2 c = search needs
 
 returns : tie.Need-returns
-returns c = search (needs, cut-told)
+returns c = search (needs, pieced)
 
 pub cut-part-spec : {M : Type 1} → statement M
 cut-part-spec =
@@ -43,9 +40,8 @@ cut-part-spec =
     part-part-start
     part-part-end
     trim-end-requires
+    add-t14
     add-t16
-    add-t18
     after-first-requires
-    add-t18-2
-    add-t21
+    add-t16-2
     returns)

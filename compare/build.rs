@@ -1,5 +1,6 @@
 //! Before anything is compiled: the given Rust must be where `COMRAK_DIR`
-//! says, byte for byte as listed in SUMS.
+//! says, byte for byte as listed in SUMS. Where `GRID_LIB_DIR` is set, the
+//! proved library is linked from there.
 
 mod sha256;
 
@@ -8,6 +9,7 @@ use std::process::exit;
 use std::{env, fs};
 
 const VARIABLE: &str = "COMRAK_DIR";
+const LIBRARY: &str = "GRID_LIB_DIR";
 
 fn main() {
     println!("cargo::rerun-if-env-changed={VARIABLE}");
@@ -32,6 +34,36 @@ fn main() {
     }
     println!("cargo::rustc-env={VARIABLE}={}", folder.display());
     name_arena_tree(&folder);
+    link_library();
+}
+
+/// Links `libabi.a` of the folder that the variable names, if it is set.
+fn link_library() {
+    println!("cargo::rerun-if-env-changed={LIBRARY}");
+    println!("cargo::rustc-check-cfg=cfg(grid_lib)");
+    println!("cargo::rustc-check-cfg=cfg(grid_table)");
+    println!("cargo::rustc-check-cfg=cfg(grid_cell)");
+    let Some(value) = env::var_os(LIBRARY) else {
+        return;
+    };
+    let folder = fs::canonicalize(&value)
+        .unwrap_or_else(|e| stop(&format!("{LIBRARY}: {}: {e}", value.display())));
+    let archive = folder.join("libabi.a");
+    if !archive.is_file() {
+        stop(&format!("{LIBRARY}: {} is not there", archive.display()));
+    }
+    println!("cargo::rerun-if-changed={}", archive.display());
+    println!("cargo::rustc-link-search=native={}", folder.display());
+    println!("cargo::rustc-link-lib=static=abi");
+    println!("cargo::rustc-cfg=grid_lib");
+    // An archive may be without these calls.
+    let bytes = fs::read(&archive).unwrap_or_else(|e| stop(&format!("{}: {e}", archive.display())));
+    for call in ["grid_table", "grid_cell"] {
+        let name = format!("{call}\0").into_bytes();
+        if bytes.windows(name.len()).any(|part| part == name) {
+            println!("cargo::rustc-cfg={call}");
+        }
+    }
 }
 
 /// The folder as an absolute path, since `include!` would read a relative one

@@ -80,6 +80,38 @@ pub fn build(sheet: &Sheet, numbers: &[usize], bytes: &[usize]) -> Option<Built>
     grid_table::build(&lines)
 }
 
+/// The table of a sheet whose lines are UTF-8, from `layout` and the cut lines of
+/// `build_grid_table`, empty last ones dropped.
+pub fn table(sheet: &Sheet) -> Option<Table> {
+    let layout = layout(sheet)?;
+    let zeros = vec![0; sheet.lines];
+    let built = build(sheet, &zeros, &zeros)?;
+    let mut table = Table {
+        columns: layout.columns.len(),
+        rows: layout.rows.len(),
+        cells: layout.cells.len(),
+        alignments: layout.columns.iter().map(|c| c.alignment).collect(),
+        widths: layout.columns.iter().map(|c| c.width).collect(),
+        sections: layout.rows.iter().map(|r| r.section).collect(),
+        ..Table::default()
+    };
+    for (cell, (_, fragments)) in layout.cells.iter().zip(&built.cells) {
+        let mut lines: Vec<Vec<u8>> = fragments.iter().map(|f| f.0.clone().into_bytes()).collect();
+        while lines.last().is_some_and(|line| line.is_empty()) {
+            lines.pop();
+        }
+        let place = Place {
+            row: cell.row,
+            column: cell.column,
+            colspan: cell.colspan,
+            rowspan: cell.rowspan,
+            lines: lines.len(),
+        };
+        table.add_cell(place, &lines);
+    }
+    Some(table)
+}
+
 /// The node tree of a table that keeps the grid rules.
 fn tree<'a>(
     arena: &'a Arena<'a>,

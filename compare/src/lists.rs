@@ -1,6 +1,9 @@
 //! `compare lists`: fixed lists of cases with their answers, for programs
 //! that replay them.
 
+mod layout;
+mod table;
+
 use std::fs;
 use std::io;
 use std::path::Path;
@@ -13,16 +16,19 @@ use crate::print::hex;
 use unicode_width::UnicodeWidthChar;
 
 pub fn write(folder: &Path) -> io::Result<()> {
-    let folder = folder.join("replay_text");
-    fs::create_dir_all(&folder)?;
     let mut list = List::default();
     trims(&mut list);
     rules(&mut list);
     decodes(&mut list);
     widths(&mut list);
     tabs(&mut list);
-    fs::write(folder.join("stdin"), list.cases)?;
-    fs::write(folder.join("stdout"), list.answers)
+    list.write(&folder.join("replay_text"))?;
+    let mut list = List::default();
+    layout::cases(&mut list);
+    list.write(&folder.join("replay_layout"))?;
+    let mut list = List::default();
+    table::cases(&mut list);
+    list.write(&folder.join("replay_table"))
 }
 
 /// One case a line, one answer a line.
@@ -33,8 +39,13 @@ struct List {
 }
 
 impl List {
+    fn write(self, folder: &Path) -> io::Result<()> {
+        fs::create_dir_all(folder)?;
+        fs::write(folder.join("stdin"), self.cases)?;
+        fs::write(folder.join("stdout"), self.answers)
+    }
+
     fn add(&mut self, case: String, answer: String) {
-        assert!(case.len() < 200);
         self.cases += &(case + "\n");
         self.answers += &(answer + "\n");
     }

@@ -1,11 +1,14 @@
 //! The given Rust, run on the arguments of document 01, and a second reading
 //! of that document beside it. README.md has the commands.
 
+mod against;
 mod arena;
 mod check;
 mod cm;
+mod cuts;
 mod given;
 mod html;
+mod library;
 mod lists;
 mod make;
 mod nodes;
@@ -13,6 +16,7 @@ mod options;
 mod paper;
 mod parser;
 mod print;
+mod speed;
 
 include!(concat!(env!("OUT_DIR"), "/arena_tree_mod.rs"));
 
@@ -27,7 +31,12 @@ use std::process::ExitCode;
 const USAGE: &str = "usage: compare self SEED N
        compare sheets SEED N
        compare tables SEED N
-       compare lists DIR";
+       compare lists DIR
+       compare layout [SEED CALLS]
+       compare cut [SEED CUTS]
+       compare speed [WORD]
+       compare listing
+       compare cells";
 
 fn main() -> ExitCode {
     let arguments: Vec<String> = std::env::args().skip(1).collect();
@@ -50,12 +59,20 @@ fn main() -> ExitCode {
 fn run(words: &[&str]) -> Option<io::Result<bool>> {
     match *words {
         ["lists", folder] => Some(lists::write(Path::new(folder)).map(|()| true)),
+        ["layout"] => Some(library::linked().map(|()| against::run(against::SEED, against::CALLS))),
+        ["cut"] => Some(library::linked().map(|()| cuts::run(cuts::SEED, cuts::CUTS))),
+        ["speed"] => Some(library::linked().map(|()| speed::run(""))),
+        ["speed", word] => Some(library::linked().map(|()| speed::run(word))),
+        ["listing"] => Some(print::listing().map(|()| true)),
+        ["cells"] => Some(print::cells().map(|()| true)),
         [command, seed, n] => {
             let (seed, n) = (seed.parse().ok()?, n.parse().ok()?);
             match command {
                 "self" => Some(Ok(check::run(seed, n))),
                 "sheets" => Some(print::sheets(seed, n).map(|()| true)),
                 "tables" => Some(print::tables(seed, n).map(|()| true)),
+                "layout" => Some(library::linked().map(|()| against::run(seed, n))),
+                "cut" => Some(library::linked().map(|()| cuts::run(seed, n))),
                 _ => None,
             }
         }

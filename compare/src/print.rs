@@ -1,8 +1,9 @@
 //! `compare sheets` and `compare tables`: inputs with their answers, a word
 //! and numbers a line. README.md has the form.
 
-use std::io::{self, Write};
+use std::io::{self, Read, Write};
 
+use crate::given;
 use crate::make::{self, Rng, edge};
 use crate::paper::cut::{self, Line};
 use crate::paper::layout::{self, Layout, Space};
@@ -28,6 +29,59 @@ fn row(word: &str, numbers: &[usize]) -> String {
 
 fn refused(refusal: Refusal) -> String {
     row("refused", &[refusal.number, refusal.place])
+}
+
+/// The listing of the drawing on standard input, an accepted one from the
+/// Rust's layout.
+pub fn listing() -> io::Result<()> {
+    let mut input = vec![];
+    io::stdin().lock().read_to_end(&mut input)?;
+    let sheet = listing::sheet_of(&input);
+    let listed = match layout::read(&sheet, Space::ENOUGH) {
+        Ok(read) => {
+            let rust = given::layout(&sheet).unwrap();
+            assert_eq!(rust, read);
+            listing::listed(&rust)
+        }
+        Err(refusal) => refused(refusal),
+    };
+    io::stdout().lock().write_all(listed.as_bytes())
+}
+
+/// The cells of the drawing on standard input, an accepted one from the
+/// Rust's layout and cut lines.
+pub fn cells() -> io::Result<()> {
+    let mut input = vec![];
+    io::stdin().lock().read_to_end(&mut input)?;
+    let sheet = listing::sheet_of(&input);
+    let listed = match cut::read_table(&sheet) {
+        Ok(read) => {
+            let rust = given::table(&sheet).unwrap();
+            assert_eq!(rust, read);
+            table_cells(&rust)
+        }
+        Err(refusal) => refused(refusal).into_bytes(),
+    };
+    io::stdout().lock().write_all(&listed)
+}
+
+fn table_cells(table: &Table) -> Vec<u8> {
+    let sizes = [
+        table.columns,
+        table.rows,
+        table.cells,
+        table.lines,
+        table.bytes,
+    ];
+    let mut out = row("table", &sizes).into_bytes();
+    let mut lines = table.all_lines().into_iter();
+    for p in &table.places {
+        out.extend(row("cell", &[p.row, p.column, p.colspan, p.rowspan, p.lines]).bytes());
+        for line in lines.by_ref().take(p.lines) {
+            out.extend([b"  ", line, b"\n"].concat());
+        }
+    }
+    out
 }
 
 pub fn sheets(seed: u64, n: usize) -> io::Result<()> {

@@ -27,7 +27,7 @@ pub fn sheet(rng: &mut Rng) -> Sheet {
 }
 
 /// A drawing within the limits, most often a valid one.
-fn painted(rng: &mut Rng) -> Lines {
+pub fn painted(rng: &mut Rng) -> Lines {
     let rows = rng.between(1, 5);
     let columns = rng.between(1, 5);
     let spans = !rng.once_in(4);
@@ -138,7 +138,7 @@ fn fill(rng: &mut Rng, row: &[u8], column: usize, kind: Kind) -> Vec<u8> {
 }
 
 /// One change: a byte, a line, a column.
-fn damage(rng: &mut Rng, lines: &mut Lines) {
+pub fn damage(rng: &mut Rng, lines: &mut Lines) {
     if lines.is_empty() {
         return;
     }

@@ -63,6 +63,77 @@ mod doors {
         }
     }
 
+    /// Lines as `layout` takes them, so that the call alone can be timed.
+    pub struct ReadyLines<'t>(Vec<Line<'t>>);
+
+    /// What `layout` answered, so that dropping it can be left out.
+    pub struct Untouched(#[expect(dead_code)] layout::Layout);
+
+    impl<'t> ReadyLines<'t> {
+        pub fn new(lines: &[(&'t str, usize)]) -> ReadyLines<'t> {
+            let lines = lines.iter().map(|&(text, column)| Line { text, column });
+            ReadyLines(lines.collect())
+        }
+
+        pub fn layout(&self) -> Option<Untouched> {
+            layout::layout(&self.0).map(Untouched)
+        }
+    }
+
+    /// What `build_grid_table` has of a drawing before it makes nodes: the
+    /// layout, and for each cell its fragments, collected as it collects them.
+    pub struct ReadTable<'t>(#[expect(dead_code)] layout::Layout, Vec<Vec<Fragment<'t>>>);
+
+    impl ReadTable<'_> {
+        /// How many cells, and how many bytes their fragments have.
+        pub fn size(&self) -> (usize, usize) {
+            let bytes = |cell: &Vec<Fragment<'_>>| cell.iter().map(|f| f.text.len()).sum::<usize>();
+            (self.1.len(), self.1.iter().map(bytes).sum())
+        }
+    }
+
+    /// A drawing as the parser has it once its last line is known.
+    pub struct ReadyTable<'p, 'a>(&'p Pending<'a>);
+
+    impl<'p> ReadyTable<'p, '_> {
+        pub fn read(&self) -> Option<ReadTable<'p>> {
+            let pending = self.0;
+            let read = pending.layout()?;
+            let mut cells = Vec::with_capacity(read.rows.iter().map(|r| r.cells.len()).sum());
+            for row in &read.rows {
+                for cell in &row.cells {
+                    let lines = cell.content.iter().zip(&pending.lines[row.top + 1..]);
+                    let cut = lines.map(|(range, line)| {
+                        super::cell_fragment(pending, line, range.clone(), cell.left)
+                    });
+                    cells.push(cut.collect());
+                }
+            }
+            Some(ReadTable(read, cells))
+        }
+    }
+
+    /// Hands over a drawing, its table bytes all 0.
+    pub fn with_ready_table<T>(
+        texts: &[(&str, usize)],
+        f: impl FnOnce(ReadyTable<'_, '_>) -> T,
+    ) -> T {
+        let arena = Arena::new();
+        let node = arena.alloc(NodeValue::Document.into());
+        let lines: Vec<PlacedLine<'_>> = texts
+            .iter()
+            .enumerate()
+            .map(|(line, &(text, column))| PlacedLine {
+                text,
+                line,
+                byte: 0,
+                column,
+            })
+            .collect();
+        let pending = pending(node, &lines);
+        f(ReadyTable(&pending))
+    }
+
     /// A line of a drawing with its number, the byte where the table starts
     /// on it, and its column.
     pub struct PlacedLine<'t> {

@@ -52,42 +52,42 @@ section-follows g {a} {b} h =
 -- ---- the table of a cover
 
 module _ (lines : List Line) (g : Grid) (rs : List Rect) (cover : Cover g rs) where
-  abbrev table : Table
+  abbrev pub table : Table
   table = tableOf lines (layoutOf lines g rs)
 
-  abbrev cell : Rect → TableCell
+  abbrev pub cell : Rect → TableCell
   cell r = tableCell lines (layoutOf lines g rs) (cellRead g rs r)
 
-  abbrev columns : List ℕ
+  abbrev pub columns : List ℕ
   columns = columnLines g rs
 
-  abbrev rows : List ℕ
+  abbrev pub rows : List ℕ
   rows = rowLines g rs
 
-  table-cells : table .cells ≡ map cell rs
+  pub table-cells : table .cells ≡ map cell rs
   unfolding tableOf layoutOf
   table-cells = map-map (tableCell lines (layoutOf lines g rs)) (cellRead g rs) rs
 
-  table-columns : length (table .columns) ≡ length columns - 1
+  pub table-columns : length (table .columns) ≡ length columns - 1
   unfolding tableOf layoutOf columnsRead
   table-columns = simp (length-map, length-between)
 
-  table-rows : length (table .sections) ≡ length rows - 1
+  pub table-rows : length (table .sections) ≡ length rows - 1
   unfolding tableOf layoutOf rowsRead
   table-rows = simp (length-map, length-between)
 
   -- where the cell of a rectangle stands
-  record Stands (r : Rect) : Type 0 where
-    left : Position columns (r .left)
-    right : Position columns (r .right)
-    top : Position rows (r .top)
-    bottom : Position rows (r .bottom)
-    wide : cell r .column < indexOf columns (r .right)
-    tall : cell r .row < indexOf rows (r .bottom)
-    columnEnd : cell r .column + cell r .colspan ≡ indexOf columns (r .right)
-    rowEnd : cell r .row + cell r .rowspan ≡ indexOf rows (r .bottom)
+  pub record Stands (r : Rect) : Type 0 where
+    pub left : Position columns (r .left)
+    pub right : Position columns (r .right)
+    pub top : Position rows (r .top)
+    pub bottom : Position rows (r .bottom)
+    pub wide : cell r .column < indexOf columns (r .right)
+    pub tall : cell r .row < indexOf rows (r .bottom)
+    pub columnEnd : cell r .column + cell r .colspan ≡ indexOf columns (r .right)
+    pub rowEnd : cell r .row + cell r .rowspan ≡ indexOf rows (r .bottom)
 
-  stands : {r : Rect} → List·Memᴰ r rs → Stands r
+  pub stands : {r : Rect} → List·Memᴰ r rs → Stands r
   unfolding tableCell cellRead indexOf
   stands {r} m =
       let h = cover .first r m .bordered in
@@ -173,7 +173,7 @@ module _ (lines : List Line) (g : Grid) (rs : List Rect) (cover : Cover g rs) wh
 
   -- ---- sections
 
-  table-sections : table .sections ≡ map (λ (b : Between). sectionAt g (b .from)) (between rows)
+  pub table-sections : table .sections ≡ map (λ (b : Between). sectionAt g (b .from)) (between rows)
   unfolding tableOf layoutOf rowsRead
   table-sections =
       map-map (λ (row : Row). row .section) (λ (b : Between). record { section = sectionAt g (b .from); top = b .from; bottom = b .to }) (between rows)
@@ -185,7 +185,7 @@ module _ (lines : List Line) (g : Grid) (rs : List Rect) (cover : Cover g rs) wh
       ∙ neighbours-imply (λ (a b : Between). ltb (a .from) (b .from)) (λ a b. mayFollow (sectionAt g (a .from)) (sectionAt g (b .from))) (between rows)
       (λ a b _ _ e. section-follows g (omega (arith, ltb-true (a .from) (b .from) e))) (between-rises rows (rowLines-rise g rs))
 
-  section-of : (i : ℕ) → suc i < length rows → getD (table .sections) i Body ≡ sectionAt g (getD rows i 0)
+  pub section-of : (i : ℕ) → suc i < length rows → getD (table .sections) i Body ≡ sectionAt g (getD rows i 0)
   section-of i h =
       let nowhere : Between = record { from = 0; to = 0 } in
       ap (λ l. getD l i Body) table-sections

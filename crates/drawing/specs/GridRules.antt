@@ -3,7 +3,6 @@
 -- crosses from one section to another."
 use Prim.Native.Nat.{ℕ, _+_}
 use mathlib.Core.Bool.{Bool, true, false, _&&_, _||_}
-use mathlib.Core.List.{List}
 use lib.ListN.{length, getD}
 use lib.Dec.{eqb, leb, ltb}
 use Rattle.seq.specs.Lists.{range, upTo, all, any, count, neighbours}

@@ -1,12 +1,12 @@
 -- Document 01, "Drawing": "Borders, corners, `=` rules (under Head; above Foot and on the last line), colons and then text, from the
 -- second column inside the cell." The plain drawing is what each column of each line puts down.
 use Prim.Native.Nat.{ℕ, _+_, _-_}
-use mathlib.Core.Bool.{Bool, true, false, not, _&&_, _||_, cond}
+use mathlib.Core.Bool.{Bool, true, false, _&&_, _||_, cond}
 use mathlib.Core.List.{List, [], _∷_, _++_, map, flatMap}
 use mathlib.Core.Option.{Option, none, some}
 use lib.ListN.{length, getD, replicate}
-use lib.Dec.{eqb, leb, ltb}
-use Rattle.seq.specs.Lists.{range, upTo, any, find, count, lastD, orDefault, isEmpty}
+use lib.Dec.{eqb, ltb}
+use Rattle.seq.specs.Lists.{range, upTo, any, find, count, lastD, orDefault}
 use Rattle.text.specs.Characters.{space, plus, colon}
 use Rattle.text.specs.Utf8.{charIndices}
 use Rattle.grid.specs.Values.{Line, Rect, GridTableColumn, TableCell, Table}

@@ -2,8 +2,8 @@
 use Prim.Native.Nat.{ℕ, _+_, _-_}
 use mathlib.Core.Bool.{Bool, not, _&&_, _||_}
 use mathlib.Core.List.{List, map}
-use mathlib.Core.Option.{Option, none, some}
-use lib.ListN.{length, getD}
+use mathlib.Core.Option.{Option, some}
+use lib.ListN.{length}
 use lib.Dec.{ltb}
 use Rattle.seq.specs.Lists.{range, upTo, sum, all, any, find, firstAt, isEmpty}
 use Rattle.text.specs.Utf8.{wellFormed}
@@ -13,7 +13,7 @@ use Rattle.grid.specs.Values.{Line, Rect, GridTableColumn, TableCell, Table}
 use Rattle.grid.specs.Slots.{Grid, gridOf, glyphAt, vertical}
 use Rattle.grid.specs.Rectangle.{plusAt}
 use Rattle.grid.specs.Layout.{innerLines}
-use Rattle.grid.specs.Read.{drawingTooLarge, readTable}
+use Rattle.grid.specs.Read.{drawingTooLarge}
 use Rattle.grid.specs.Flat.{tableLines}
 use Rattle.grid.specs.declared.TableAlignment.{TableAlignment}
 use Rattle.drawing.specs.GridRules.{isHead, isFoot, keepsRules}

@@ -5,7 +5,6 @@ use mathlib.Core.List.{List}
 use lib.Dec.{ltb}
 use Rattle.grid.specs.Answer.{Answer, accept, refuseIf, andThen, afterwards, over}
 use Rattle.grid.specs.Limits.{maxLines, maxWidth}
-use Rattle.grid.specs.Values.{Line}
 use Rattle.grid.specs.Flat.{FlatDrawing, flatDrawing, TableSizes, TableArrays, tableContradicts, tableOfArrays, shorter}
 use Rattle.drawing.specs.Redraw.{redraw}
 

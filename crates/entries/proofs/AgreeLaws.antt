@@ -2,31 +2,31 @@
 -- Assumes nothing.
 use Prim.Native.Nat.{ℕ, _+_, _-_, _<_, _≤_}
 use mathlib.Core.Path.{_≡_, refl, sym, ap, _∙_}
-use mathlib.Core.Bool.{Bool, true, false, cond, _||_}
+use mathlib.Core.Bool.{Bool, true, false, cond}
 use mathlib.Core.List.{List, [], _∷_, map, flatMap, List·Memᴰ, List·Memᴰ·head, List·Memᴰ·tail, List·Memᴰ·not-nil, List·Memᴰ·cases-cons}
 use mathlib.Core.Option.{Option, none, some}
 use mathlib.Core.Logic.{⊎-elim}
 use native.Mathlib.Omega.{arith}
-use lib.Dec.{eqb, leb, ltb}
+use lib.Dec.{leb, ltb}
 use lib.ListN.{length, getD, drop}
 use borrow.Author.Tests.{le-ltb, lt-leb}
-use Rattle.seq.specs.Lists.{orDefault, select, any, upTo, range}
+use Rattle.seq.specs.Lists.{orDefault}
 use Rattle.seq.proofs.FlatMaps.{flatMap-same, flatMap-map, flatMap-flatMap}
 use Rattle.seq.proofs.Ranges.{range-mem}
 use Rattle.seq.proofs.Searches.{select-mem}
 use Rattle.text.specs.Rule.{toPlus}
-use Rattle.grid.specs.Values.{Line, Rect, GridTableColumn, Row, Range, Cell, Layout}
-use Rattle.grid.specs.Slots.{Glyph, Grid, glyphAt, byteAt, isPlus, trimmedAt}
+use Rattle.grid.specs.Values.{Line, Rect, Cell}
+use Rattle.grid.specs.Slots.{Grid, glyphAt, byteAt, isPlus, trimmedAt}
 use Rattle.grid.specs.Layout.{columnLines, rowLines, Between, between, alignmentLine, alignmentAt, segmentAlignment, columnsRead, rowsRead, sectionAt, headEnd, footStart, isAbove, isFrom, cellRead, layoutOf, innerLines, contentAt}
 use Rattle.grid.specs.Flat.{alignmentCode, sectionCode, columnNumbers}
-use Rattle.grid.specs.LayoutCall.{LayoutArrays, rowNumbers, cellNumbers, rangeNumbers, contents, layoutArrays}
+use Rattle.grid.specs.LayoutCall.{rowNumbers, cellNumbers, rangeNumbers, layoutArrays}
 use Rattle.grid.specs.Arrays.{codeAt, codeGlyph, Holds}
 use Rattle.grid.specs.declared.TableAlignment.{TableAlignment}
 use Rattle.grid.specs.declared.TableAlignment.the-variants.{None}
 use Rattle.grid.specs.declared.GridTableSection.the-variants.{Head, Body, Foot}
 use Rattle.grid.proofs.HoldsLaws.{held-glyph, held-byte}
 use Rattle.entries.specs.declared.Parts.{Parts}
-use Rattle.entries.specs.Writing.{alignmentFrom, columnEntries, sectionFrom, rowEntries, cellEntry, cellEntries, rangeEntries, allRanges, Inside}
+use Rattle.entries.specs.Writing.{alignmentFrom, columnEntries, sectionFrom, rowEntries, cellEntries, rangeEntries, allRanges, Inside}
 
 -- arrays that hold a grid, and rectangles inside it
 pub record Laid (g : Grid) (rs : List Rect) (glyphs offsets : List ℕ) : Type 0 where
@@ -49,7 +49,7 @@ column-inside : (g : Grid) (rs : List Rect) (b : Between) → List·Memᴰ b (be
 unfolding columnLines
 column-inside g rs b m = let h = range-mem 0 (g .width) (b .from) (select-mem _ _ (between-from _ b m) .0) in omega arith
 
-row-inside : (g : Grid) (rs : List Rect) (b : Between) → List·Memᴰ b (between (rowLines g rs)) → b .from < g .height
+pub row-inside : (g : Grid) (rs : List Rect) (b : Between) → List·Memᴰ b (between (rowLines g rs)) → b .from < g .height
 unfolding rowLines
 row-inside g rs b m = let h = range-mem 0 (g .height) (b .from) (select-mem _ _ (between-from _ b m) .0) in omega arith
 
@@ -77,7 +77,7 @@ module _ (lines : List Line) (g : Grid) (rs : List Rect) (glyphs offsets : List 
       ∙ sym (flatMap-map columnNumbers (λ (b : Between). record { alignment = alignmentAt lines g (b .from); width = b .to - b .from - 1 }) (between (columnLines g rs)))
 
 -- sections from the separators
-section-agrees : (g : Grid) (p : Parts) (top : ℕ) → p .head ≡ orDefault 0 (headEnd g) → p .foot ≡ orDefault 128 (footStart g) → top < 128
+pub section-agrees : (g : Grid) (p : Parts) (top : ℕ) → p .head ≡ orDefault 0 (headEnd g) → p .foot ≡ orDefault 128 (footStart g) → top < 128
     → sectionFrom p top ≡ sectionCode (sectionAt g top)
 unfolding sectionAt
 section-agrees g p top head foot small =

@@ -17,18 +17,18 @@ use Rattle.grid.specs.Limits.{maxLines, maxLineBytes, maxBytes, maxOrigin}
 use Rattle.grid.specs.Flat.{splitText, linesFrom}
 use Rattle.grid.specs.Read.{drawingTooLarge}
 use Rattle.entries.specs.Checks.{Agree, anyOver}
-use Rattle.seq.proofs.Walks.{eqb-same, sum-step, sum-end, any-step, any-end}
+use Rattle.seq.proofs.Walks.{eqb-same, sum-after, sum-end, any-step, any-end}
 use Rattle.grid.proofs.FlatLaws.{length-lines, lengths-lines, any-line-too-large}
 
 -- ---- lengths that add up, counted down
 module _ (lengths : List ℕ) (bytes i left : ℕ) (counted : eqb (sum lengths) bytes ≡ eqb (sum (drop i lengths)) left) where
   pub too-long : left < getD lengths i 0 → false ≡ eqb (sum lengths) bytes
-  too-long over = rw counted (sym (ne-eqb (sum (drop i lengths)) left (λ e. omega (arith, sum-step lengths i))))
+  too-long over = rw counted (sym (ne-eqb (sum (drop i lengths)) left (λ e. omega (arith, sum-after lengths i))))
 
   pub counts-down : getD lengths i 0 ≤ left → eqb (sum lengths) bytes ≡ eqb (sum (drop (i + 1) lengths)) (left - getD lengths i 0)
   counts-down fits =
       counted ∙ eqb-same (sum (drop i lengths)) left (sum (drop (i + 1) lengths)) (left - getD lengths i 0)
-      (λ e. omega (arith, sum-step lengths i)) (λ e. omega (arith, sum-step lengths i))
+      (λ e. omega (arith, sum-after lengths i)) (λ e. omega (arith, sum-after lengths i))
 
   pub counted-down : length lengths ≤ i → eqb left 0 ≡ eqb (sum lengths) bytes
   counted-down h = rw counted (eqb-same left 0 (sum (drop i lengths)) left (λ e. omega (arith, sum-end lengths i h)) (λ e. omega (arith, sum-end lengths i h)))
@@ -65,10 +65,10 @@ module _ (lengths columns text : List ℕ) (agree : Agree lengths columns text) 
 
 -- ---- the first line outside the set
 pub line-passed : (lengths text : List ℕ) (at y : ℕ) → at + sum (drop y lengths) ≡ length text → at + getD lengths y 0 + sum (drop (y + 1) lengths) ≡ length text
-line-passed lengths text at y e = omega (arith, sum-step lengths y)
+line-passed lengths text at y e = omega (arith, sum-after lengths y)
 
 pub line-end : (lengths text : List ℕ) (at y : ℕ) → at + sum (drop y lengths) ≡ length text → at + getD lengths y 0 ≤ length text
-line-end lengths text at y e = omega (arith, sum-step lengths y)
+line-end lengths text at y e = omega (arith, sum-after lengths y)
 
 module _ (lengths text : List ℕ) (at y : ℕ)
     (passed : firstAt (λ line. not (wellFormed line)) 0 (splitText lengths text) ≡ firstAt (λ line. not (wellFormed line)) y (splitText (drop y lengths) (drop at text))) where

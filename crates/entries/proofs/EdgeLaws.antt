@@ -13,7 +13,8 @@ use lib.ListN.{length, drop, getD, set, replicate, length-set, length-append, le
 use lib.Seq.{getD-drop, getD-set-same, getD-set-other, take-suc-set}
 use borrow.Author.Tests.{eqb-true, eqb-false, eq-eqb, ne-eqb, lt-ltb, le-ltb}
 use Rattle.seq.specs.Lists.{range, upTo, any, select}
-use Rattle.seq.proofs.Walks.{or-assoc, or-middle, any-append, range-more, select-append, select-agree, select-all}
+use Rattle.seq.proofs.Gathered.{range-more, select-append}
+use Rattle.seq.proofs.Walks.{or-assoc, or-middle, any-append, select-agree, select-all}
 use Rattle.grid.proofs.EntryLaws.{any-everyNth, any-edge}
 use Rattle.entries.specs.declared.Bounds.{Bounds}
 use Rattle.seq.proofs.Ranges.{range-mem}

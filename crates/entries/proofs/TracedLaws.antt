@@ -2,18 +2,15 @@
 -- Assumes nothing.
 use Prim.Native.Nat.{ℕ, _+_, _-_, _≤_, _<_}
 use mathlib.Core.Path.{_≡_, refl, sym, ap, _∙_}
-use mathlib.Core.Bool.{Bool, true}
 use mathlib.Core.List.{List, [], _∷_, List·Memᴰ, List·Memᴰ·head, List·Memᴰ·not-nil}
-use mathlib.Core.Option.{none}
 use native.Mathlib.Omega.{arith}
-use lib.Dec.{ltb}
 use lib.ListN.{length, getD}
-use Rattle.seq.specs.Lists.{neighbours, select, upTo, orDefault}
+use Rattle.seq.specs.Lists.{select, upTo, orDefault}
 use Rattle.seq.proofs.Ranges.{range-mem}
 use Rattle.seq.proofs.Searches.{select-mem}
 use Rattle.grid.specs.Answer.{accept}
 use Rattle.grid.specs.Values.{Line, Rect}
-use Rattle.grid.specs.Slots.{Grid, Slot, Other, gridOf, slotAt, byteAt, isSeparator, lineSlots}
+use Rattle.grid.specs.Slots.{Grid, gridOf, byteAt, isSeparator}
 use Rattle.grid.specs.Layout.{firstOf, alignmentLine, columnLines, rowLines}
 use Rattle.grid.specs.Cover.{Cover}
 use Rattle.grid.specs.LayoutParts.{gridAnswer}
@@ -24,7 +21,7 @@ use Rattle.grid.proofs.HoldsLaws.{held-byte}
 use Rattle.grid.proofs.LayoutLaws.{columnLines-rise, rowLines-rise, left-line, top-line}
 use Rattle.grid.proofs.LayoutPartsLaws.{grid-accepted}
 use Rattle.grid.proofs.SeparatorLaws.{row-filled}
-use Rattle.grid.proofs.SlotLaws.{rows-length, row-at}
+use Rattle.grid.proofs.SlotLaws.{rows-length}
 use Rattle.entries.specs.Edges.{Collected, rowLinesBelow, columnLinesBelow}
 use Rattle.entries.specs.Writing.{linesHeld, Rising, Inside, Numbered}
 use Rattle.entries.specs.declared.Bounds.{Bounds}

@@ -13,35 +13,36 @@ use lib.Seq.{sets-eq, take-all, getD-take, length-take-le}
 use borrow.Author.Tests.{ltb-true, ltb-false}
 use mir.Syntax.{w16, w64}
 use mir.Val.{Fits}
-use Rattle.seq.proofs.Positions.{getD-mem}
+use Rattle.seq.proofs.Positions.{getD-range, getD-mem}
 use Rattle.seq.proofs.Ranges.{length-range}
 use Rattle.seq.proofs.Rising.{rising-getD}
-use Rattle.seq.proofs.Entries.{Written, length-more, length-all, first-shorter, none-written, all-written, write-more, write-sets}
+use Rattle.seq.proofs.FlatMaps.{length-flatMap}
+use Rattle.seq.proofs.Entries.{Written, length-more, first-shorter, none-written, all-written, write-more, write-sets}
 use Rattle.grid.specs.Answer.{over}
 use Rattle.seq.specs.Lists.{consIf, select, range, sum}
 use Rattle.grid.specs.Values.{Rect}
 use Rattle.grid.specs.Arrays.{codeAt, rectsOf}
 use Rattle.grid.specs.Layout.{Between, between, indexOf, innerLines}
 use Rattle.grid.proofs.LayoutLaws.{length-between}
-use Rattle.seq.proofs.Walks.{getD-range, sum-more}
+use Rattle.seq.proofs.Walks.{sum-more}
 use Rattle.grid.proofs.EntryLaws.{rectAt, length-rects, getD-rects, between-at}
 use Rattle.entries.specs.declared.Bounds.{Bounds}
 use Rattle.entries.specs.declared.Parts.{Parts}
 use Rattle.entries.specs.Writing.{linesHeld, Rising, alignmentFrom, columnEntries, sectionFrom, rowEntries, cellEntry, cellEntries, rangeEntries, allRanges, Inside, Numbered}
 
 -- ---- the lines that an array holds, two neighbours a turn
-nobody : Between
+pub nobody : Between
 nobody = record { from = 0; to = 0 }
 
 module _ (b : Bounds) (k : ℕ) (rising : Rising b) where
   length-held : length (linesHeld b) ≡ b .count
   length-held = length-take-le (b .count) (b .lines) (omega (arith, rising .room, rising .few))
 
-  length-pairs : length (between (linesHeld b)) ≡ b .count - 1
+  pub length-pairs : length (between (linesHeld b)) ≡ b .count - 1
   length-pairs = length-between (linesHeld b) ∙ rw length-held
 
   module _ (h : k + 1 < b .count) where
-    pair-at : getD (between (linesHeld b)) k nobody ≡ record { from = getD (b .lines) k 0; to = getD (b .lines) (k + 1) 0 }
+    pub pair-at : getD (between (linesHeld b)) k nobody ≡ record { from = getD (b .lines) k 0; to = getD (b .lines) (k + 1) 0 }
     pair-at =
         between-at (linesHeld b) k nobody (omega (arith, length-held))
         ∙ rw (getD-take (b .count) (b .lines) k 0 (omega arith), getD-take (b .count) (b .lines) (k + 1) 0 h)
@@ -115,11 +116,11 @@ module _ (glyphs offsets line : List ℕ) (a : ℕ) (columns : Bounds) (buffer :
         all-written columnEntry (between (linesHeld columns)) 0 buffer out k (omega (arith, length-pairs columns k rising)) (w .entries) ∙ rw zero-add
 
 -- ---- rectangles
-noRect : Rect
+pub noRect : Rect
 noRect = record { top = 0; left = 0; bottom = 0; right = 0 }
 
 -- what holds of each rectangle holds of number k
-rect-holds : (P : Rect → Type 0) (rects : List ℕ) (n k : ℕ) → k < n → ((r : Rect) → List·Memᴰ r (rectsOf n rects) → P r) → P (rectAt rects k)
+pub rect-holds : (P : Rect → Type 0) (rects : List ℕ) (n k : ℕ) → k < n → ((r : Rect) → List·Memᴰ r (rectsOf n rects) → P r) → P (rectAt rects k)
 rect-holds P rects n k h all =
     rw (getD-rects n k rects noRect h) at (all (getD (rectsOf n rects) k noRect) (getD-mem (rectsOf n rects) k noRect (rw length-rects h)))
 
@@ -175,51 +176,77 @@ index-grows (a ∷ lines) x y h = go (ltb a x) refl (ltb a y) refl (index-grows 
   go false e true f later = omega arith
   go false e false f later = later
 
-pub record CellsWritten (rects : List ℕ) (n : ℕ) (rows columns : Bounds) (buffer : List ℕ) (k : ℕ) (out : List ℕ) : Type 0 where
+-- every rectangle has its numbers in the index tables
+pub record AllNumbered (rects : List ℕ) (n : ℕ) (rows columns : Bounds) : Type 0 where
   pub inside : AllInside rects n
-  pub numbered : (r : Rect) → List·Memᴰ r (rectsOf n rects) → Numbered rows columns r
+  pub each : (r : Rect) → List·Memᴰ r (rectsOf n rects) → Numbered rows columns r
+
+pub all-numbered : (rects : List ℕ) (n : ℕ) (rows columns : Bounds) → ((r : Rect) → List·Memᴰ r (rectsOf n rects) → Numbered rows columns r)
+    → AllNumbered rects n rows columns
+all-numbered rects n rows columns each = record { inside = record { each = λ r m. each r m .inside }; each = each }
+
+-- a cell's row, column, colspan and rowspan, and one number more
+abbrev spanEntry : (Rect → ℕ) → List ℕ → List ℕ → Rect → List ℕ
+spanEntry more rows columns r =
+    indexOf rows (r .top) ∷ indexOf columns (r .left) ∷ (indexOf columns (r .right) - indexOf columns (r .left))
+    ∷ (indexOf rows (r .bottom) - indexOf rows (r .top)) ∷ more r ∷ []
+
+module _ (rects : List ℕ) (n : ℕ) (rows columns : Bounds) (k : ℕ) (numbered : AllNumbered rects n rows columns) (h : k < n) where
+  here : Numbered rows columns (rectAt rects k)
+  here = rect-holds (Numbered rows columns) rects n k h (numbered .each)
+
+  pub rows-ordered : getD (rows .index) (getD rects (4 * k) 0) 0 ≤ getD (rows .index) (getD rects (4 * k + 2) 0) 0
+  rows-ordered = rw (here .topNumber, here .bottomNumber) (index-grows (linesHeld rows) (getD rects (4 * k) 0) (getD rects (4 * k + 2) 0) (omega (arith, here .inside .down)))
+
+  pub columns-ordered : getD (columns .index) (getD rects (4 * k + 1) 0) 0 ≤ getD (columns .index) (getD rects (4 * k + 3) 0) 0
+  columns-ordered = rw (here .leftNumber, here .rightNumber) (index-grows (linesHeld columns) (getD rects (4 * k + 1) 0) (getD rects (4 * k + 3) 0) (omega (arith, here .inside .across)))
+
+  -- one turn, whatever the number more
+  pub span-next : (more : Rect → ℕ) (v : ℕ) (buffer out out′ : List ℕ) → 5 * n ≤ length buffer → v ≡ more (rectAt rects k)
+      → Written (spanEntry more (linesHeld rows) (linesHeld columns)) (rectsOf n rects) 0 buffer k out
+      → out′ ≡ take (5 * k) out
+      ++ (getD (rows .index) (getD rects (4 * k) 0) 0
+      ∷ getD (columns .index) (getD rects (4 * k + 1) 0) 0
+      ∷ (getD (columns .index) (getD rects (4 * k + 3) 0) 0 - getD (columns .index) (getD rects (4 * k + 1) 0) 0)
+      ∷ (getD (rows .index) (getD rects (4 * k + 2) 0) 0 - getD (rows .index) (getD rects (4 * k) 0) 0)
+      ∷ v ∷ [])
+      ++ drop (5 * k + 5) out
+      → Written (spanEntry more (linesHeld rows) (linesHeld columns)) (rectsOf n rects) 0 buffer (k + 1) out′
+  span-next more v buffer out out′ room e w g =
+      let before : length (flatMap (spanEntry more (linesHeld rows) (linesHeld columns)) (take k (rectsOf n rects))) ≡ 5 * k =
+      length-flatMap 5 (spanEntry more (linesHeld rows) (linesHeld columns)) (take k (rectsOf n rects)) (λ r. refl)
+      ∙ rw (length-take-le k (rectsOf n rects) (rw length-rects (omega arith))) in
+      write-more (spanEntry more (linesHeld rows) (linesHeld columns)) (rectsOf n rects) 0 buffer out k noRect (rw length-rects h) w (5 * k) out′
+      (rw (before, zero-add)) (omega arith)
+      (rw (getD-rects n k rects noRect h, ← e) (rw (here .topNumber, here .bottomNumber, here .leftNumber, here .rightNumber) at g))
+
+pub record CellsWritten (rects : List ℕ) (n : ℕ) (rows columns : Bounds) (buffer : List ℕ) (k : ℕ) (out : List ℕ) : Type 0 where
+  pub numbered : AllNumbered rects n rows columns
   pub entries : Written (cellEntry (linesHeld rows) (linesHeld columns)) (rectsOf n rects) 0 buffer k out
 
 pub no-cell : (rects : List ℕ) (n : ℕ) (rows columns : Bounds) (buffer : List ℕ) → ((r : Rect) → List·Memᴰ r (rectsOf n rects) → Numbered rows columns r)
     → CellsWritten rects n rows columns buffer 0 buffer
-no-cell rects n rows columns buffer numbered =
-    record { inside = record { each = λ r m. numbered r m .inside }; numbered = numbered; entries = none-written (cellEntry (linesHeld rows) (linesHeld columns)) (rectsOf n rects) 0 buffer }
+no-cell rects n rows columns buffer each =
+    record { numbered = all-numbered rects n rows columns each; entries = none-written (cellEntry (linesHeld rows) (linesHeld columns)) (rectsOf n rects) 0 buffer }
 
 module _ (rects : List ℕ) (n : ℕ) (rows columns : Bounds) (buffer out : List ℕ) (k : ℕ) (w : CellsWritten rects n rows columns buffer k out) where
-  module _ (h : k < n) where
-    here : Numbered rows columns (rectAt rects k)
-    here = rect-holds (Numbered rows columns) rects n k h (w .numbered)
+  pub cell-room : k < n → 5 * n ≤ length buffer → 5 * k + 5 ≤ length out
+  cell-room h room = omega (arith, w .entries .kept)
 
-    pub rows-ordered : getD (rows .index) (getD rects (4 * k) 0) 0 ≤ getD (rows .index) (getD rects (4 * k + 2) 0) 0
-    rows-ordered = rw (here .topNumber, here .bottomNumber) (index-grows (linesHeld rows) (getD rects (4 * k) 0) (getD rects (4 * k + 2) 0) (omega (arith, here .inside .down)))
-
-    pub columns-ordered : getD (columns .index) (getD rects (4 * k + 1) 0) 0 ≤ getD (columns .index) (getD rects (4 * k + 3) 0) 0
-    columns-ordered = rw (here .leftNumber, here .rightNumber) (index-grows (linesHeld columns) (getD rects (4 * k + 1) 0) (getD rects (4 * k + 3) 0) (omega (arith, here .inside .across)))
-
-    pub cell-room : 5 * n ≤ length buffer → 5 * k + 5 ≤ length out
-    cell-room room = omega (arith, w .entries .kept)
-
-    pub cell-next : (out′ : List ℕ) → 5 * n ≤ length buffer
-        → out′ ≡ take (5 * k) out
-        ++ (getD (rows .index) (getD rects (4 * k) 0) 0
-        ∷ getD (columns .index) (getD rects (4 * k + 1) 0) 0
-        ∷ (getD (columns .index) (getD rects (4 * k + 3) 0) 0 - getD (columns .index) (getD rects (4 * k + 1) 0) 0)
-        ∷ (getD (rows .index) (getD rects (4 * k + 2) 0) 0 - getD (rows .index) (getD rects (4 * k) 0) 0)
-        ∷ getD rects (4 * k + 1) 0 ∷ [])
-        ++ drop (5 * k + 5) out
-        → CellsWritten rects n rows columns buffer (k + 1) out′
-    cell-next out′ room e =
-        let before : length (flatMap (cellEntry (linesHeld rows) (linesHeld columns)) (take k (rectsOf n rects))) ≡ 5 * k =
-        length-all (cellEntry (linesHeld rows) (linesHeld columns)) 5 (λ r. refl) (take k (rectsOf n rects))
-        ∙ rw (length-take-le k (rectsOf n rects) (rw length-rects (omega arith))) in
-        record {
-          inside = w .inside;
-          numbered = w .numbered;
-          entries =
-              write-more (cellEntry (linesHeld rows) (linesHeld columns)) (rectsOf n rects) 0 buffer out k noRect (rw length-rects h) (w .entries) (5 * k) out′
-              (rw (before, zero-add)) (omega arith)
-              (rw (getD-rects n k rects noRect h) (rw (here .topNumber, here .bottomNumber, here .leftNumber, here .rightNumber) at e));
-        }
+  pub cell-next : k < n → (out′ : List ℕ) → 5 * n ≤ length buffer
+      → out′ ≡ take (5 * k) out
+      ++ (getD (rows .index) (getD rects (4 * k) 0) 0
+      ∷ getD (columns .index) (getD rects (4 * k + 1) 0) 0
+      ∷ (getD (columns .index) (getD rects (4 * k + 3) 0) 0 - getD (columns .index) (getD rects (4 * k + 1) 0) 0)
+      ∷ (getD (rows .index) (getD rects (4 * k + 2) 0) 0 - getD (rows .index) (getD rects (4 * k) 0) 0)
+      ∷ getD rects (4 * k + 1) 0 ∷ [])
+      ++ drop (5 * k + 5) out
+      → CellsWritten rects n rows columns buffer (k + 1) out′
+  cell-next h out′ room e =
+      record {
+        numbered = w .numbered;
+        entries = span-next rects n rows columns k (w .numbered) h (λ r. r .left) (getD rects (4 * k + 1) 0) buffer out out′ room refl (w .entries) e;
+      }
 
   pub cells-done : n ≤ k → out ≡ over (cellEntries (linesHeld rows) (linesHeld columns) (rectsOf n rects)) buffer
   cells-done h =
@@ -228,7 +255,7 @@ module _ (rects : List ℕ) (n : ℕ) (rows columns : Bounds) (buffer out : List
 -- ---- the ranges of one cell
 length-ranges : (offsets : List ℕ) (r : Rect) → length (rangeEntries offsets r) ≡ 2 * (r .bottom - r .top - 1)
 length-ranges offsets r =
-    length-all (λ y. (codeAt offsets y (r .left) + 1) ∷ codeAt offsets y (r .right) ∷ []) 2 (λ y. refl) (innerLines r) ∙ rw length-range
+    length-flatMap 2 (λ y. (codeAt offsets y (r .left) + 1) ∷ codeAt offsets y (r .right) ∷ []) (innerLines r) (λ y. refl) ∙ rw length-range
 
 pub record RangesWritten (offsets : List ℕ) (top left bottom right at : ℕ) (buffer : List ℕ) (y : ℕ) (out : List ℕ) : Type 0 where
   pub entries : Written (λ y. (codeAt offsets y left + 1) ∷ codeAt offsets y right ∷ []) (range (top + 1) (bottom - top - 1)) at buffer (y - top - 1) out
@@ -248,7 +275,7 @@ module _ (offsets : List ℕ) (top left bottom right at : ℕ) (buffer : List �
         (set (set out i (getD offsets (y * 128 + left) 0 + 1)) (i + 1) (getD offsets (y * 128 + right) 0))
     range-next i high e room =
         let k : y + 1 - top - 1 ≡ y - top - 1 + 1 = omega arith in
-        let here : getD (range (top + 1) (bottom - top - 1)) (y - top - 1) 0 ≡ y = getD-range (top + 1) (bottom - top - 1) (y - top - 1) (omega arith) ∙ omega arith in
+        let here : getD (range (top + 1) (bottom - top - 1)) (y - top - 1) 0 ≡ y = getD-range (top + 1) (bottom - top - 1) (y - top - 1) 0 (omega arith) ∙ omega arith in
         let step =
         write-sets entry (range (top + 1) (bottom - top - 1)) at buffer out (y - top - 1) 0 (rw length-range (omega arith)) (w .entries) 2 (λ b. refl)
         (rw length-range room) in

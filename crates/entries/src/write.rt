@@ -55,7 +55,7 @@ pub fn write_rows(rows: Bounds, p: Parts, out: &mut [u16])
 }
 
 // One cell's entries, from entry `at` on.
-fn write_cell(
+pub fn write_cell(
     row: u16,
     column: u16,
     colspan: u16,

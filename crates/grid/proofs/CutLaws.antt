@@ -75,7 +75,7 @@ drop-trimmed (suc zero) (b ∷ bs) h e = trim-rest b bs e
 drop-trimmed (suc (suc n)) t h e = absurd (omega arith)
 
 -- a first part without its own first bytes is a part that starts later
-drop-take : (m n : ℕ) (s : List ℕ) → m ≤ n → drop m (take n s) ≡ take (n - m) (drop m s)
+pub drop-take : (m n : ℕ) (s : List ℕ) → m ≤ n → drop m (take n s) ≡ take (n - m) (drop m s)
 drop-take m n s h =
     ext-getD 0 (drop m (take n s)) (take (n - m) (drop m s)) (simp (length-drop, length-take) (omega arith))
     (λ i k. let l : i < n - m = omega (arith, simp (length-drop, length-take) at k) in

@@ -13,7 +13,7 @@ use Rattle.grid.specs.Cut.{cut}
 use Rattle.grid.specs.Flat.{FlatDrawing, TableSizes, TableArrays, flatDrawing, linesOf, tableSizes, tableArrays, tableContradicts, tableOfArrays}
 use Rattle.grid.specs.LayoutCall.{LayoutSpace, LayoutArrays, layoutAnswer, layoutAfterwards}
 use Rattle.grid.specs.CutCall.{cutAnswer, cutNumbersAnswer, cutText}
-use Rattle.grid.specs.TableCall.{tableSpace, tableAnswer, tableAfterwards, cellAnswer, cellAfterwards}
+use Rattle.grid.specs.TableCall.{TableSpace, tableAnswer, tableAfterwards, cellAnswer, cellAfterwards}
 use Rattle.grid.specs.Listing.{linesRead, listing}
 
 -- U+0301, a mark that takes no column
@@ -208,7 +208,10 @@ abbrev lentTable : List ℕ → TableArrays
 lentTable text =
     record { columns = 9 ∷ 9 ∷ 9 ∷ 9 ∷ []; sections = 9 ∷ []; cells = replicate 11 9; lengths = 9 ∷ 9 ∷ []; text = text }
 
-table-written : tableAfterwards (space 4096) tableSpace spanned (lentTable (ascii "??"))
+abbrev roomy : TableSpace
+roomy = record { starts = 128; counts = 1024 }
+
+table-written : tableAfterwards (space 4096) roomy spanned (lentTable (ascii "??"))
     ≡ record {
       columns = 1 ∷ 3 ∷ 0 ∷ 3 ∷ [];
       sections = 1 ∷ [];
@@ -219,23 +222,23 @@ table-written : tableAfterwards (space 4096) tableSpace spanned (lentTable (asci
 unfolding reading
 table-written = refl
 
-table-sizes : tableAnswer (space 4096) tableSpace spanned (lentTable (ascii "??")) ≡ accept (record { columns = 2; rows = 1; cells = 2; lines = 2; bytes = 2 })
+table-sizes : tableAnswer (space 4096) roomy spanned (lentTable (ascii "??")) ≡ accept (record { columns = 2; rows = 1; cells = 2; lines = 2; bytes = 2 })
 unfolding reading
 table-sizes = refl
 
-table-text-too-short : tableAnswer (space 4096) tableSpace spanned (lentTable (ascii "?")) ≡ refuse 12 0
+table-text-too-short : tableAnswer (space 4096) roomy spanned (lentTable (ascii "?")) ≡ refuse 12 0
 unfolding reading
 table-text-too-short = refl
 
-table-space-too-short : tableAnswer (space 4096) 38522 spanned (lentTable (ascii "??")) ≡ refuse 13 0
+table-space-too-short : tableAnswer (space 4096) (record { starts = 127; counts = 1024 }) spanned (lentTable (ascii "??")) ≡ refuse 13 0
 unfolding reading
 table-space-too-short = refl
 
-cell-cut : cellAfterwards (space 4096) tableSpace spanned 1 (9 ∷ 9 ∷ 9 ∷ 9 ∷ 9 ∷ []) ≡ 1 ∷ 6 ∷ 7 ∷ 11 ∷ 9 ∷ []
+cell-cut : cellAfterwards (space 4096) 128 spanned 1 (9 ∷ 9 ∷ 9 ∷ 9 ∷ 9 ∷ []) ≡ 1 ∷ 6 ∷ 7 ∷ 11 ∷ 9 ∷ []
 unfolding reading
 cell-cut = refl
 
-cell-past-the-end : cellAnswer (space 4096) tableSpace spanned 2 [] ≡ refuse 13 0
+cell-past-the-end : cellAnswer (space 4096) 128 spanned 2 [] ≡ refuse 13 0
 unfolding reading
 cell-past-the-end = refl
 

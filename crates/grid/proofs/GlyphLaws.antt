@@ -1,14 +1,12 @@
 -- Tracing looks at a grid's width, height and glyphs, and at nothing else.
 -- Assumes nothing.
-use Prim.Native.Nat.{ℕ, zero, suc, _+_, _-_}
-use mathlib.Core.Path.{_≡_, refl, ap}
+use Prim.Native.Nat.{ℕ, zero, suc, _-_}
+use mathlib.Core.Path.{_≡_}
 use mathlib.Core.List.{List}
-use mathlib.Core.Option.{Option, none, some}
-use Rattle.grid.specs.Limits.{maxCells}
 use Rattle.grid.specs.Values.{Rect}
-use Rattle.grid.specs.Slots.{Glyph, Grid, glyphAt}
+use Rattle.grid.specs.Slots.{Grid, glyphAt}
 use Rattle.grid.specs.Rectangle.{across, down, bordered, firstRect}
-use Rattle.grid.specs.Trace.{Traced, nextRect, placeNext, raise, traceFrom, trace}
+use Rattle.grid.specs.Trace.{nextRect, traceFrom, trace}
 
 -- two grids of one size with the same glyphs
 pub record SameGlyphs (g k : Grid) : Type 0 where

@@ -1,10 +1,10 @@
 -- Column and row lines of a cover: they are its edges, and each but the last is where a cell starts.
 -- Assumes nothing.
-use Prim.Native.Nat.{ℕ, zero, suc, _-_, _<_}
+use Prim.Native.Nat.{ℕ, zero, suc, _-_, _≤_, _<_}
 use mathlib.Core.Path.{_≡_, refl, sym, ap, _∙_}
 use mathlib.Core.Bool.{Bool, true, _||_}
 use mathlib.Core.Logic.{_⊎_, _↔_, inl, inr, ⊎-elim}
-use mathlib.Core.List.{List, [], _∷_, map, List·Memᴰ}
+use mathlib.Core.List.{List, [], _∷_, map, List·Memᴰ, List·Memᴰ·head, List·Memᴰ·tail}
 use native.Mathlib.Nat.{eq-or-lt-of-le}
 use native.Mathlib.Omega.{arith}
 use lib.Dec.{eqb, ltb}
@@ -12,8 +12,8 @@ use lib.ListN.{length, getD, length-map}
 use borrow.Author.Tests.{eqb-true, eq-eqb}
 use Rattle.seq.specs.Lists.{upTo, any, select, neighbours}
 use Rattle.seq.proofs.Tests.{and-left, and-right, and-intro, or-cases, or-left, or-right, lex-above, lex-beside, lex-cases}
-use Rattle.seq.proofs.Ranges.{mem-range, range-mem}
-use Rattle.seq.proofs.Searches.{any-mem, mem-any, select-mem, mem-select, count-pick, count-one, neighbours-map, neighbours-imply}
+use Rattle.seq.proofs.Ranges.{mem-range, range-mem, length-range}
+use Rattle.seq.proofs.Searches.{any-mem, mem-any, select-mem, mem-select, count-few, count-pick, count-one, neighbours-map, neighbours-imply}
 use Rattle.seq.proofs.Positions.{getD-mem}
 use Rattle.seq.proofs.Rising.{rising-strict, range-rises, select-sorted, rising-getD, position-lt, position-at}
 use Rattle.grid.specs.Values.{Line, Rect}
@@ -34,6 +34,13 @@ getD-between [] i d h = absurd (omega arith)
 getD-between (a ∷ []) i d h = absurd (omega arith)
 getD-between (a ∷ b ∷ l) zero d h = refl
 getD-between (a ∷ b ∷ l) (suc i) d h = getD-between (b ∷ l) i d (omega arith)
+
+pub between-mem : (l : List ℕ) {b : Between} → List·Memᴰ b (between l) → List·Memᴰ (b .to) l
+unfolding between
+between-mem [] m = elim m [ ]
+between-mem (a ∷ []) m = elim m [ ]
+between-mem (a ∷ b ∷ l) (List·Memᴰ·head e) = List·Memᴰ·tail (List·Memᴰ·head (ap (λ (b : Between). b .to) e))
+between-mem (a ∷ b ∷ l) (List·Memᴰ·tail m) = List·Memᴰ·tail (between-mem (b ∷ l) m)
 
 pub between-rises : (l : List ℕ) → neighbours ltb l ≡ true → neighbours (λ (a b : Between). ltb (a .from) (b .from)) (between l) ≡ true
 unfolding between neighbours
@@ -92,13 +99,22 @@ module _ (g : Grid) (rs : List Rect) where
   unfolding rowLines
   rowLines-rise = lines-rise (λ r. r .top) (λ r. r .bottom) rs (g .height)
 
-  columnLine-inside : {x : ℕ} → List·Memᴰ x (columnLines g rs) → x < g .width
+  pub columnLine-inside : {x : ℕ} → List·Memᴰ x (columnLines g rs) → x < g .width
   unfolding columnLines
   columnLine-inside {x} m = line-edge (λ r. r .left) (λ r. r .right) rs (g .width) x m .1
 
   rowLine-inside : {y : ℕ} → List·Memᴰ y (rowLines g rs) → y < g .height
   unfolding rowLines
   rowLine-inside {y} m = line-edge (λ r. r .top) (λ r. r .bottom) rs (g .height) y m .1
+
+  -- There are no more of them than columns and lines.
+  pub columnLines-few : length (columnLines g rs) ≤ g .width
+  unfolding columnLines
+  columnLines-few = omega (arith, count-few (λ x. any (isEdge (λ r. r .left) (λ r. r .right) x) rs) (upTo (g .width)), length-range 0 (g .width))
+
+  pub rowLines-few : length (rowLines g rs) ≤ g .height
+  unfolding rowLines
+  rowLines-few = omega (arith, count-few (λ y. any (isEdge (λ r. r .top) (λ r. r .bottom) y) rs) (upTo (g .height)), length-range 0 (g .height))
 
 module _ {g : Grid} {rs : List Rect} (cover : Cover g rs) where
   -- Column lines are exactly the left and right edges of the rectangles.

@@ -1,22 +1,22 @@
 -- What reading answers by its parts, and the layout call after it.
 -- Assumes nothing.
 use Prim.Native.Nat.{ℕ}
-use mathlib.Core.Path.{_≡_, refl, ap, _∙_}
+use mathlib.Core.Path.{_≡_, refl}
 use mathlib.Core.Bool.{Bool, true, false, _||_}
 use mathlib.Core.List.{List}
 use mathlib.Core.Option.{Option, none, some}
 use lib.ListN.{length}
 use lib.Dec.{ltb}
 use Rattle.seq.specs.Lists.{isEmpty}
-use Rattle.grid.specs.Answer.{Answer, accept, refuse, refuseIf, refuseAt, andThen, afterwards}
+use Rattle.grid.specs.Answer.{Answer, accept, refuse, refuseIf, refuseAt, andThen}
 use Rattle.grid.specs.Limits.{maxWidth}
-use Rattle.grid.specs.Values.{Rect, Layout}
+use Rattle.grid.specs.Values.{Rect}
 use Rattle.grid.specs.Slots.{Grid, gridOf, trimmedAt}
 use Rattle.grid.specs.Trace.{covered, trace}
 use Rattle.grid.specs.Layout.{layoutOf}
 use Rattle.grid.specs.Read.{drawingTooLarge, outsideSet, noRule, wrongWidth, rectangles, readGrid, readRects, readLayout}
 use Rattle.grid.specs.Flat.{FlatDrawing, drawingContradicts, linesOf}
-use Rattle.grid.specs.LayoutCall.{LayoutSpace, LayoutArrays, spaceShort, layoutArrays, layoutShort, layoutOver, layoutSizes, layoutAccepts, layoutAnswer, layoutAfterwards}
+use Rattle.grid.specs.LayoutCall.{LayoutSpace, LayoutArrays, spaceShort, layoutArrays, layoutShort, layoutAccepts, layoutAnswer, layoutAfterwards}
 use Rattle.grid.proofs.ReadLaws.{passed-at, traced-rectangles}
 use Rattle.grid.specs.LayoutParts.{rectsAnswer, widthAnswer, gridAnswer, finishAnswer, finishSizes, finishArrays}
 

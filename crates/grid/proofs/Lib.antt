@@ -15,6 +15,12 @@ pub mod SlotLaws
 pub mod LayoutPartsLaws
 pub mod EntryLaws
 pub mod FlatLaws
+pub mod FlatTableLaws
 pub mod ByteLaws
 pub mod SizeLaws
+pub mod RebuiltLaws
+pub mod SquareSums
 pub mod CutLaws
+pub mod CellLaws
+pub mod CellTexts
+pub mod TablePartsLaws

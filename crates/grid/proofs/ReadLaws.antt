@@ -1,21 +1,27 @@
 -- What a drawing that is read has passed.
 -- Assumes nothing.
-use Prim.Native.Nat.{ℕ}
+use Prim.Native.Nat.{ℕ, _≤_}
 use mathlib.Core.Path.{_≡_, refl}
-use mathlib.Core.Bool.{Bool, true, false}
+use mathlib.Core.Bool.{Bool, true, false, _||_}
 use mathlib.Core.Option.{Option, none, some}
-use mathlib.Core.List.{List}
+use mathlib.Core.List.{List, map, List·Memᴰ}
 use native.Mathlib.Omega.{arith}
 use lib.Dec.{ltb}
-use Rattle.seq.specs.Lists.{isEmpty}
+use lib.ListN.{length}
+use borrow.Author.Tests.{ltb-false}
+use Rattle.seq.specs.Lists.{any, sum, isEmpty}
+use Rattle.seq.proofs.Tests.{or-neither}
+use Rattle.seq.proofs.Searches.{any-none}
 use Rattle.grid.specs.Answer.{Answer, accept, refuse, refuseIf, refuseAt, andThen}
-use Rattle.grid.specs.Limits.{maxWidth}
-use Rattle.grid.specs.Values.{Line, Rect, Table}
+use Rattle.grid.specs.Limits.{maxLines, maxLineBytes, maxBytes, maxWidth, maxOrigin}
+use Rattle.grid.specs.Values.{Line, Rect, Layout, Table}
 use Rattle.grid.specs.Slots.{gridOf}
 use Rattle.grid.specs.Trace.{Traced, covered, stopped, trace}
+use Rattle.grid.specs.Cover.{Cover}
 use Rattle.grid.specs.Layout.{layoutOf}
 use Rattle.grid.specs.Cut.{tableOf}
-use Rattle.grid.specs.Read.{drawingTooLarge, outsideSet, noRule, wrongWidth, rectangles, readGrid, readRects, readLayout, readTable}
+use Rattle.grid.specs.Read.{lineTooLarge, drawingTooLarge, outsideSet, noRule, wrongWidth, rectangles, readGrid, readRects, readLayout, readTable}
+use Rattle.grid.proofs.CoverTheorems.{traced-covers}
 
 module _ {A : Type 0} where
   pub passed-if : (t : Bool) (number : ℕ) (next : Answer A) (a : A) → refuseIf t number next ≡ accept a → (t ≡ false) × (next ≡ accept a)
@@ -25,6 +31,11 @@ module _ {A : Type 0} where
   pub passed-at : (o : Option ℕ) (number : ℕ) (next : Answer A) (a : A) → refuseAt o number next ≡ accept a → (o ≡ none) × (next ≡ accept a)
   passed-at none number next a e = (refl, e)
   passed-at (some place) number next a e = absurd (let z : _≡_ {A = ℕ} 0 1 = cc in omega arith)
+
+module _ {A B : Type 0} where
+  pub passed-then : (a : Answer A) (next : A → Answer B) (b : B) → andThen a next ≡ accept b → (x : A) × (a ≡ accept x) × (next x ≡ accept b)
+  passed-then (accept x) next b e = (x, refl, e)
+  passed-then (refuse number place) next b e = absurd (let z : _≡_ {A = ℕ} 0 1 = cc in omega arith)
 
 pub traced-rectangles : (t : Traced) (rs : List Rect) → rectangles t ≡ accept rs → t ≡ covered rs
 traced-rectangles (covered qs) rs e = cc
@@ -66,13 +77,55 @@ passed lines rs e =
       traced = traced-rectangles (trace g) rs (p5 .1);
     }
 
--- a table that is read is made of the rectangles that were traced
+-- the limits that a drawing keeps
+pub record Limited (lines : List Line) : Type 0 where
+  pub fewLines : length lines ≤ 128
+  pub shortLines : {line : Line} → List·Memᴰ line lines → length (line .text) ≤ 512
+  pub fewBytes : sum (map (λ (line : Line). length (line .text)) lines) ≤ 32768
+
+limited : (lines : List Line) → drawingTooLarge lines ≡ false → Limited lines
+unfolding drawingTooLarge
+limited lines e =
+    let bytes = sum (map (λ (line : Line). length (line .text)) lines) in
+    let (lengths, few) = or-neither (ltb maxLines (length lines) || any lineTooLarge lines) (ltb maxBytes bytes) e in
+    let (count, short) = or-neither (ltb maxLines (length lines)) (any lineTooLarge lines) lengths in
+    record {
+      fewLines = ltb-false maxLines (length lines) count;
+      shortLines = λ {line} m.
+          ltb-false maxLineBytes (length (line .text)) (or-neither (ltb maxLineBytes (length (line .text))) (ltb maxOrigin (line .column)) (any-none lineTooLarge short m) .0);
+      fewBytes = ltb-false maxBytes bytes few;
+    }
+
+pub height-of : (lines : List Line) → gridOf lines .height ≡ length lines
+unfolding gridOf
+height-of lines = refl
+
+-- what a drawing that is read is made of
+module _ {lines : List Line} {rs : List Rect} (checks : Passed lines rs) where
+  pub read-cover : Cover (gridOf lines) rs
+  read-cover = traced-covers (gridOf lines) rs (checks .traced) .0
+
+  pub read-few : length rs ≤ 1024
+  read-few = traced-covers (gridOf lines) rs (checks .traced) .1
+
+  pub read-limited : Limited lines
+  read-limited = limited lines (checks .notTooLarge)
+
+  pub read-narrow : gridOf lines .width ≤ 128
+  read-narrow = ltb-false maxWidth (gridOf lines .width) (checks .notTooWide)
+
+-- a layout, and a table, that is read is made of the rectangles that were traced
+pub layout-read : (lines : List Line) (l : Layout) → readLayout lines ≡ accept l
+    → (rs : List Rect) × (readRects lines ≡ accept rs) × (l ≡ layoutOf lines (gridOf lines) rs)
+unfolding readLayout
+layout-read lines l e =
+    let (rs, f, made) = passed-then (readRects lines) (λ rs. accept (layoutOf lines (gridOf lines) rs)) l e in
+    (rs, f, cc)
+
 pub table-read : (lines : List Line) (t : Table) → readTable lines ≡ accept t
     → (rs : List Rect) × (readRects lines ≡ accept rs) × (t ≡ tableOf lines (layoutOf lines (gridOf lines) rs))
-unfolding readTable readLayout
-table-read lines t e = go (readRects lines) refl e where
-  go : (a : Answer (List Rect)) → readRects lines ≡ a
-      → andThen (andThen a (λ rs. accept (layoutOf lines (gridOf lines) rs))) (λ l. accept (tableOf lines l)) ≡ accept t
-      → (rs : List Rect) × (readRects lines ≡ accept rs) × (t ≡ tableOf lines (layoutOf lines (gridOf lines) rs))
-  go (accept rs) f e = (rs, f, cc)
-  go (refuse number place) f e = absurd (let z : _≡_ {A = ℕ} 0 1 = cc in omega arith)
+unfolding readTable
+table-read lines t e =
+    let (l, f, made) = passed-then (readLayout lines) (λ l. accept (tableOf lines l)) t e in
+    let (rs, h, same) = layout-read lines l f in
+    (rs, h, cc)

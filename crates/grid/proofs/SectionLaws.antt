@@ -2,16 +2,17 @@
 -- Assumes nothing.
 use Prim.Native.Nat.{ℕ, _-_, _≤_, _<_}
 use mathlib.Core.Path.{_≡_, refl, sym, _∙_}
-use mathlib.Core.Bool.{true}
+use mathlib.Core.Bool.{Bool, true, false, cond}
 use mathlib.Core.Logic.{⊎-elim}
 use mathlib.Core.Option.{Option, none, some}
 use mathlib.Core.List.{List, [], _∷_, List·Memᴰ, List·Memᴰ·head, List·Memᴰ·tail}
 use native.Mathlib.Omega.{arith}
 use lib.Dec.{eqb}
 use borrow.Author.Tests.{ltb-true, leb-true, lt-ltb, le-ltb, le-leb, lt-leb}
-use Rattle.seq.proofs.Tests.{le-or-lt}
+use Rattle.seq.proofs.Tests.{true-not-false, le-or-lt}
 use Rattle.seq.proofs.Searches.{someIf-some}
 use Rattle.grid.specs.Slots.{Grid}
+use Rattle.grid.specs.declared.GridTableSection.the-variants.{Head, Body, Foot}
 use Rattle.grid.specs.Layout.{firstOf, headEnd, lastButOne, footStart, isAbove, isFrom, sectionAt}
 
 firstOf-mem : (l : List ℕ) {s : ℕ} → firstOf l ≡ some s → List·Memᴰ s l
@@ -34,6 +35,25 @@ above-before {a} {b} h (some s) e = lt-ltb a s (omega (arith, ltb-true b s e))
 pub from-after : {a b : ℕ} → a ≤ b → (o : Option ℕ) → isFrom a o ≡ true → isFrom b o ≡ true
 from-after h none e = e
 from-after {a} {b} h (some s) e = le-leb s b (omega (arith, leb-true s a e))
+
+-- ---- Foot and Head
+
+isFrom-some : (y end : ℕ) (l : List ℕ) → isFrom y (lastButOne end l) ≡ true → (s : ℕ) × (firstOf l ≡ some s)
+unfolding lastButOne
+isFrom-some y end [] e = absurd (true-not-false (sym e))
+isFrom-some y end (a ∷ []) e = absurd (true-not-false (sym e))
+isFrom-some y end (a ∷ b ∷ l) e = (a, refl)
+
+-- Where a line is in the Foot, line 0 is in the Head.
+pub foot-head : (g : Grid) → ((s : ℕ) → List·Memᴰ s (g .separators) → 0 < s) → (y : ℕ) → sectionAt g y ≡ Foot → sectionAt g 0 ≡ Head
+unfolding sectionAt
+foot-head g later y e =
+    let (s, first) = isFrom-some y (g .height - 1) (g .separators) (from (isAbove y (headEnd g)) (isFrom y (footStart g)) e) in
+    rw (first, lt-ltb 0 s (later s (firstOf-mem (g .separators) first))) where
+      from : (t u : Bool) → cond t Head (cond u Foot Body) ≡ Foot → u ≡ true
+      from true u e = absurd (let z : _≡_ {A = ℕ} 0 1 = cc in omega arith)
+      from false true e = refl
+      from false false e = absurd (let z : _≡_ {A = ℕ} 0 1 = cc in omega arith)
 
 -- ---- between separators
 

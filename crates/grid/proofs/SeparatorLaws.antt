@@ -8,19 +8,20 @@ use mathlib.Core.Option.{none}
 use mathlib.Core.List.{List, [], _∷_, List·Memᴰ, List·Memᴰ·append-cases}
 use native.Mathlib.Nat.{eq-or-lt-of-le}
 use native.Mathlib.Omega.{arith}
-use lib.Dec.{eqb}
+use lib.Dec.{eqb, ltb}
 use lib.ListN.{length, getD, replicate, length-map}
-use borrow.Author.Tests.{eqb-true, not-false}
+use borrow.Author.Tests.{eqb-true, ltb-true, not-false}
 use Rattle.seq.specs.Lists.{upTo}
-use Rattle.seq.proofs.Tests.{or-right, le-or-lt}
+use Rattle.seq.proofs.Tests.{and-left, or-right, le-or-lt}
 use Rattle.seq.proofs.Ranges.{range-mem, length-range}
 use Rattle.seq.proofs.Searches.{select-mem, firstAt-none}
 use Rattle.seq.proofs.Positions.{getD-mem, getD-made, mem-replicate}
 use Rattle.text.specs.Characters.{plus, span}
 use Rattle.text.specs.Utf8.{CharIndex, charIndices}
 use Rattle.text.specs.Trim.{trimEnd}
+use Rattle.text.specs.Rule.{isRule}
 use Rattle.grid.specs.Values.{Line, Rect}
-use Rattle.grid.specs.Slots.{Grid, Slot, Plus, Dash, Pipe, Other, dash, pipe, glyphOf, glyphAt, horizontal, slotsFrom, lineSlots, isSeparator, slotRows, gridOf, slotAt}
+use Rattle.grid.specs.Slots.{Grid, Slot, Plus, Dash, Pipe, Other, dash, equals, pipe, trimmedAt, glyphOf, glyphAt, horizontal, slotsFrom, lineSlots, isSeparator, slotRows, gridOf, slotAt}
 use Rattle.grid.specs.Layout.{rowLines}
 use Rattle.grid.specs.Read.{wrongWidth, readRects}
 use Rattle.grid.specs.Answer.{accept}
@@ -70,6 +71,10 @@ unfolding gridOf
 separator-inside lines {s} m =
     let chosen = select-mem (isSeparator lines) (upTo (length lines)) m in
     (omega (arith, range-mem 0 (length lines) s (chosen .0)), chosen .1)
+
+pub separator-later : (lines : List Line) {s : ℕ} → List·Memᴰ s (gridOf lines .separators) → 0 < s
+unfolding isSeparator
+separator-later lines {s} m = ltb-true 0 s (and-left (ltb 0 s) (isRule equals (trimmedAt lines s)) (separator-inside lines m .1))
 
 separator-across : (lines : List Line) → wrongWidth (gridOf lines) ≡ none → {s : ℕ} → List·Memᴰ s (gridOf lines .separators) → Across (gridOf lines) s
 unfolding gridOf slotAt lineSlots

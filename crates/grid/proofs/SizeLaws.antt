@@ -1,19 +1,19 @@
 -- How long a layout's arrays are.
 -- Assumes nothing.
 use Prim.Native.Nat.{ℕ, _-_, _*_}
-use mathlib.Core.Path.{_≡_, refl, sym, ap, _∙_}
+use mathlib.Core.Path.{_≡_, refl, ap, _∙_}
 use mathlib.Core.Bool.{_||_}
-use mathlib.Core.List.{List, [], _∷_, map, flatMap}
+use mathlib.Core.List.{List, map}
 use lib.Dec.{ltb}
 use lib.ListN.{length, length-map}
 use Rattle.seq.specs.Lists.{sum}
 use Rattle.seq.proofs.FlatMaps.{flatMap-map, length-flatMap, length-flatMap-sum}
 use Rattle.seq.proofs.Ranges.{length-range}
-use Rattle.grid.specs.Values.{Line, Rect, Range, Cell}
+use Rattle.grid.specs.Values.{Line, Rect, Cell}
 use Rattle.grid.specs.Slots.{Grid, trimmedAt}
-use Rattle.grid.specs.Layout.{Between, between, columnLines, rowLines, columnsRead, rowsRead, innerLines, contentAt, cellRead, layoutOf}
+use Rattle.grid.specs.Layout.{between, columnLines, rowLines, columnsRead, rowsRead, innerLines, contentAt, cellRead, layoutOf}
 use Rattle.grid.specs.Flat.{columnNumbers}
-use Rattle.grid.specs.LayoutCall.{LayoutSizes, LayoutArrays, contents, rowNumbers, cellNumbers, rangeNumbers, layoutArrays, layoutSizes, layoutShort}
+use Rattle.grid.specs.LayoutCall.{LayoutArrays, contents, rowNumbers, cellNumbers, rangeNumbers, layoutArrays, layoutSizes, layoutShort}
 use Rattle.grid.proofs.LayoutLaws.{length-between}
 
 -- how many inner lines all cells have
@@ -21,11 +21,11 @@ abbrev pub innerCount : List Rect → ℕ
 innerCount rs = sum (map (λ (q : Rect). q .bottom - q .top - 1) rs)
 
 module _ (lines : List Line) (g : Grid) (rs : List Rect) where
-  columns-count : length (columnsRead lines g rs) ≡ length (columnLines g rs) - 1
+  pub columns-count : length (columnsRead lines g rs) ≡ length (columnLines g rs) - 1
   unfolding columnsRead
   columns-count = length-map (between (columnLines g rs)) _ ∙ length-between (columnLines g rs)
 
-  rows-count : length (rowsRead g rs) ≡ length (rowLines g rs) - 1
+  pub rows-count : length (rowsRead g rs) ≡ length (rowLines g rs) - 1
   unfolding rowsRead
   rows-count = length-map (between (rowLines g rs)) _ ∙ length-between (rowLines g rs)
 

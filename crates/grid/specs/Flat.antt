@@ -2,7 +2,7 @@
 -- bytes, line columns) and its text, back to back without line ends. A table has sizes, columns (alignment, declared width), one
 -- section a row, and cells in order of row, then column."
 use Prim.Native.Nat.{ℕ, zero, suc, _*_}
-use mathlib.Core.Bool.{Bool, not, _&&_, _||_, cond}
+use mathlib.Core.Bool.{Bool, not, _&&_, cond}
 use mathlib.Core.List.{List, [], _∷_, map, flatMap}
 use lib.ListN.{length, getD, take, drop}
 use lib.Dec.{eqb, ltb}

@@ -9,7 +9,7 @@ use Rattle.seq.specs.Lists.{range, upTo, any, select, count, lastD, someIf, orD
 use Rattle.text.specs.Characters.{colon}
 use Rattle.text.specs.Rule.{toPlus}
 use Rattle.grid.specs.Values.{Line, Rect, GridTableColumn, Row, Range, Cell, Layout}
-use Rattle.grid.specs.Slots.{Grid, gridOf, byteAt, trimmedAt}
+use Rattle.grid.specs.Slots.{Grid, byteAt, trimmedAt}
 use Rattle.grid.specs.Rectangle.{plusAt}
 use Rattle.grid.specs.declared.TableAlignment.{TableAlignment}
 use Rattle.grid.specs.declared.TableAlignment.the-variants.{None, Left, Right, Center}

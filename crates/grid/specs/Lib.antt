@@ -11,10 +11,13 @@ pub mod Same
 pub mod Cover
 pub mod Flat
 pub mod LayoutCall
+pub mod Rebuilt
 pub mod LayoutParts
 pub mod Arrays
 pub mod Reach
 pub mod CutCall
 pub mod TableCall
+pub mod TableParts
 pub mod Listing
+pub mod CellListing
 pub mod Computing

@@ -1,5 +1,5 @@
 -- How far borders reach: in an array beside the glyphs, the last column (line) of the horizontal (vertical) run from each slot.
-use Prim.Native.Nat.{ℕ, _+_, _*_, _≤_, _<_}
+use Prim.Native.Nat.{ℕ, _≤_, _<_}
 use mathlib.Core.Path.{_≡_}
 use mathlib.Core.Bool.{true}
 use mathlib.Core.List.{List}

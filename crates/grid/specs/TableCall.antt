@@ -1,11 +1,11 @@
 -- The calls from a drawing to its table: the whole table, and the cut lines of one cell.
-use Prim.Native.Nat.{ℕ, _+_, _*_}
+use Prim.Native.Nat.{ℕ}
 use mathlib.Core.Bool.{Bool, _||_}
 use mathlib.Core.List.{List, [], _∷_, map, flatMap}
 use lib.ListN.{length, getD}
 use lib.Dec.{leb, ltb}
 use Rattle.grid.specs.Answer.{Answer, accept, refuseIf, andThen, afterwards, over}
-use Rattle.grid.specs.Limits.{maxColumns, maxRows, maxCells, maxTableLines}
+use Rattle.grid.specs.Limits.{maxLines, maxCells}
 use Rattle.grid.specs.Values.{Line, Cell, Layout, Table}
 use Rattle.grid.specs.Cut.{cellFragments}
 use Rattle.grid.specs.Read.{readLayout, readTable}
@@ -13,9 +13,16 @@ use Rattle.grid.specs.Flat.{FlatDrawing, drawingContradicts, linesOf, Ta
 use Rattle.grid.specs.LayoutCall.{LayoutSpace, spaceShort}
 use Rattle.grid.specs.CutCall.{CutNumbers, cutNumbers}
 
--- working space beside the layout's: room for the layout itself
-abbrev pub tableSpace : ℕ
-tableSpace = 2 * maxColumns + 3 * maxRows + 5 * maxCells + 2 * maxTableLines
+-- working space beside the layout's: where each line's text starts, and the number of lines of each cell
+pub record TableSpace : Type 0 where
+  pub starts : ℕ
+  pub counts : ℕ
+
+unfoldable pub startsShort : ℕ → Bool
+startsShort starts = ltb starts maxLines
+
+unfoldable pub tableSpaceShort : TableSpace → Bool
+tableSpaceShort s = startsShort (s .starts) || ltb (s .counts) maxCells
 
 unfoldable pub tableShort : TableArrays → TableArrays → Bool
 tableShort out t =
@@ -33,19 +40,19 @@ tableOver t out =
     }
 
 -- 13, of the calls that read a layout first
-abbrev pub readContradicts : LayoutSpace → ℕ → FlatDrawing → Bool
-readContradicts w space d = drawingContradicts d || spaceShort w || ltb space tableSpace
+abbrev pub readContradicts : LayoutSpace → Bool → FlatDrawing → Bool
+readContradicts w short d = drawingContradicts d || spaceShort w || short
 
-unfoldable pub tableAccepts : LayoutSpace → ℕ → FlatDrawing → TableArrays → Answer Table
-tableAccepts w space d out =
-    refuseIf (readContradicts w space d) 13
+unfoldable pub tableAccepts : LayoutSpace → TableSpace → FlatDrawing → TableArrays → Answer Table
+tableAccepts w s d out =
+    refuseIf (readContradicts w (tableSpaceShort s) d) 13
     (andThen (readTable (linesOf d)) (λ t. refuseIf (tableShort out (tableArrays t)) 12 (accept t)))
 
-unfoldable pub tableAnswer : LayoutSpace → ℕ → FlatDrawing → TableArrays → Answer TableSizes
-tableAnswer w space d out = andThen (tableAccepts w space d out) (λ t. accept (tableSizes t))
+unfoldable pub tableAnswer : LayoutSpace → TableSpace → FlatDrawing → TableArrays → Answer TableSizes
+tableAnswer w s d out = andThen (tableAccepts w s d out) (λ t. accept (tableSizes t))
 
-unfoldable pub tableAfterwards : LayoutSpace → ℕ → FlatDrawing → TableArrays → TableArrays
-tableAfterwards w space d out = afterwards (tableAccepts w space d out) (λ t. tableOver (tableArrays t) out) out
+unfoldable pub tableAfterwards : LayoutSpace → TableSpace → FlatDrawing → TableArrays → TableArrays
+tableAfterwards w s d out = afterwards (tableAccepts w s d out) (λ t. tableOver (tableArrays t) out) out
 
 abbrev pub noCell : Cell
 noCell = record { row = 0; column = 0; colspan = 0; rowspan = 0; left = 0; content = [] }
@@ -62,14 +69,14 @@ cutArray cuts = flatMap fourOf cuts
 
 -- 13 also where "a cell number asked for is past the end": known once the drawing is read, and so checked before 12
 unfoldable pub cellAccepts : LayoutSpace → ℕ → FlatDrawing → ℕ → List ℕ → Answer (List CutNumbers)
-cellAccepts w space d k out =
-    refuseIf (readContradicts w space d) 13
+cellAccepts w starts d k out =
+    refuseIf (readContradicts w (startsShort starts) d) 13
     (andThen (readLayout (linesOf d)) (λ (l : Layout). refuseIf (leb (length (l .cells)) k) 13
     (refuseIf (shorter out (cutArray (cellCuts (linesOf d) l k))) 12 (accept (cellCuts (linesOf d) l k)))))
 
 -- how many cut lines the cell has
 unfoldable pub cellAnswer : LayoutSpace → ℕ → FlatDrawing → ℕ → List ℕ → Answer ℕ
-cellAnswer w space d k out = andThen (cellAccepts w space d k out) (λ cuts. accept (length cuts))
+cellAnswer w starts d k out = andThen (cellAccepts w starts d k out) (λ cuts. accept (length cuts))
 
 unfoldable pub cellAfterwards : LayoutSpace → ℕ → FlatDrawing → ℕ → List ℕ → List ℕ
-cellAfterwards w space d k out = afterwards (cellAccepts w space d k out) (λ cuts. over (cutArray cuts) out) out
+cellAfterwards w starts d k out = afterwards (cellAccepts w starts d k out) (λ cuts. over (cutArray cuts) out) out

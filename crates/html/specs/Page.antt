@@ -2,7 +2,7 @@
 -- line feed. Tags are written as fixed byte strings."
 use Prim.Native.Nat.{ℕ, zero, suc, _+_}
 use mathlib.Core.Bool.{Bool, true, false, not, _&&_, cond}
-use mathlib.Core.List.{List, [], _∷_, _++_, flatMap}
+use mathlib.Core.List.{List, [], _++_, flatMap}
 use lib.ListN.{length, getD}
 use lib.Dec.{eqb, ltb}
 use Rattle.seq.specs.Lists.{upTo, select}

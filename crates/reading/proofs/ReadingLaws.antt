@@ -24,7 +24,7 @@ use Rattle.reading.specs.declared.Measured.{Measured}
 use Rattle.reading.specs.declared.Measured.the-variants.{Width, Refused}
 use Rattle.reading.specs.declared.Outcome.{Outcome}
 use Rattle.reading.specs.Call.{spaces, drawing, checkedOf, Through, Reading}
-use Rattle.reading.proofs.WidthLaws.{sheet-passed, width-told, width-fits, rooms}
+use Rattle.reading.proofs.WidthLaws.{sheet-passed, bytes-few, width-told, width-fits, rooms}
 
 -- ---- no refusal has number 0
 abbrev Numbered : Answer ℕ → Type 0
@@ -106,6 +106,7 @@ module _ (lines bytes : ℕ) (lengths columns text glyphs₀ offsets₀ down rig
         accepted = λ z. grid ∙ through .accepted z;
         traced = λ z. record {
           sheet = sheet;
+          fewBytes = bytes-few lines bytes lengths columns text width answered;
           roomy =
               record {
                 heightFits = sheet .fewLines;

@@ -2,14 +2,14 @@
 -- Assumes nothing.
 use Prim.Native.Nat.{ℕ, zero, suc, _≤_}
 use mathlib.Core.Path.{_≡_, refl, sym}
-use mathlib.Core.Bool.{Bool, true, false, _||_}
+use mathlib.Core.Bool.{false, _||_}
 use mathlib.Core.List.{List, [], _∷_}
 use native.Mathlib.Omega.{arith}
 use lib.Dec.{ltb}
 use lib.ListN.{length, getD}
 use borrow.Author.Tests.{ltb-false}
 use Rattle.seq.specs.Lists.{any, isEmpty}
-use Rattle.seq.proofs.Tests.{true-not-false}
+use Rattle.seq.proofs.Tests.{or-neither}
 use Rattle.grid.specs.Answer.{accept, refuse, refuseIf, refuseAt}
 use Rattle.grid.specs.Limits.{maxLines, maxLineBytes, maxBytes, maxWidth, maxOrigin}
 use Rattle.grid.specs.Slots.{trimmedAt}
@@ -26,15 +26,11 @@ use Rattle.reading.specs.declared.Measured.the-variants.{Width, Refused}
 use Rattle.reading.specs.Call.{spaces, drawing, checkedOf}
 use Rattle.reading.proofs.CheckedLaws.{agrees}
 
-pub both-false : (s t : Bool) → s || t ≡ false → (s ≡ false) × (t ≡ false)
-both-false true t e = absurd (true-not-false e)
-both-false false t e = (refl, e)
-
 none-over-limit : (limit : ℕ) (numbers : List ℕ) → anyOver limit numbers ≡ false → (i : ℕ) → getD numbers i 0 ≤ limit
 unfolding anyOver any
 none-over-limit limit [] e i = omega arith
-none-over-limit limit (n ∷ ns) e zero = ltb-false limit n (both-false (ltb limit n) (any (λ n. ltb limit n) ns) e .0)
-none-over-limit limit (n ∷ ns) e (suc i) = none-over-limit limit ns (both-false (ltb limit n) (any (λ n. ltb limit n) ns) e .1) i
+none-over-limit limit (n ∷ ns) e zero = ltb-false limit n (or-neither (ltb limit n) (any (λ n. ltb limit n) ns) e .0)
+none-over-limit limit (n ∷ ns) e (suc i) = none-over-limit limit ns (or-neither (ltb limit n) (any (λ n. ltb limit n) ns) e .1) i
 
 -- ---- a drawing whose width is answered
 module _ (lines bytes : ℕ) (lengths columns text : List ℕ) (width : ℕ) (e : accept width ≡ widthAnswer (drawing lines bytes lengths columns text)) where
@@ -62,15 +58,15 @@ module _ (lines bytes : ℕ) (lengths columns text : List ℕ) (width : ℕ) (e 
   agreed : Agree lengths columns text
   agreed = agrees lines bytes lengths columns text false (sym (checks .0)) refl
 
-  limits : (ltb maxLines (length lengths) ≡ false) × (anyOver maxLineBytes lengths ≡ false) × (anyOver maxOrigin columns ≡ false)
+  limits : (ltb maxLines (length lengths) ≡ false) × (anyOver maxLineBytes lengths ≡ false) × (anyOver maxOrigin columns ≡ false) × (ltb maxBytes (length text) ≡ false)
   limits =
       let most = ltb maxLines (length lengths) in
       let s = anyOver maxLineBytes lengths in
       let t = anyOver maxOrigin columns in
-      let p = both-false (most || (s || t)) (ltb maxBytes (length text)) (rw (limits-apart lengths columns text agreed) at (checks .1)) in
-      let q = both-false most (s || t) (p .0) in
-      let r = both-false s t (q .1) in
-      (q .0, r .0, r .1)
+      let p = or-neither (most || (s || t)) (ltb maxBytes (length text)) (rw (limits-apart lengths columns text agreed) at (checks .1)) in
+      let q = or-neither most (s || t) (p .0) in
+      let r = or-neither s t (q .1) in
+      (q .0, r .0, r .1, p .1)
 
   pub sheet-passed : Sheet lengths columns text
   sheet-passed =
@@ -81,6 +77,9 @@ module _ (lines bytes : ℕ) (lengths columns text : List ℕ) (width : ℕ) (e 
         shortLines = none-over-limit maxLineBytes lengths (limits .1);
         nearColumns = none-over-limit maxOrigin columns (limits .2);
       }
+
+  pub bytes-few : length text ≤ maxBytes
+  bytes-few = ltb-false maxBytes (length text) (limits .3)
 
   pub width-told : width ≡ length (trimmedAt (linesFrom lengths columns text) 0)
   width-told = checks .3
@@ -98,10 +97,10 @@ module _ (glyphs offsets down right rects : List ℕ) (enough : spaceShort (spac
       let c = ltb (length down) slotSpace in
       let d = ltb (length right) slotSpace in
       let f = ltb (length rects) rectSpace in
-      let p = both-false (a || b || c || d) f enough in
-      let q = both-false (a || b || c) d (p .0) in
-      let r = both-false (a || b) c (q .0) in
-      let s = both-false a b (r .0) in (
+      let p = or-neither (a || b || c || d) f enough in
+      let q = or-neither (a || b || c) d (p .0) in
+      let r = or-neither (a || b) c (q .0) in
+      let s = or-neither a b (r .0) in (
         ltb-false (length glyphs) slotSpace (s .0),
         ltb-false (length offsets) slotSpace (s .1),
         ltb-false (length down) slotSpace (r .1),

@@ -4,6 +4,7 @@ use mathlib.Core.Path.{_≡_}
 use mathlib.Core.List.{List}
 use lib.ListN.{length}
 use Rattle.grid.specs.Answer.{Answer, accept, refuse}
+use Rattle.grid.specs.Limits.{maxBytes}
 use Rattle.grid.specs.Values.{Rect}
 use Rattle.grid.specs.Slots.{Grid, gridOf}
 use Rattle.grid.specs.Flat.{FlatDrawing, linesFrom}
@@ -42,6 +43,7 @@ pub record Through (g : Grid) (glyphs offsets rects : List ℕ) (s : Outcome) : 
 -- a drawing that was traced: what its arrays have room for and hold
 pub record TracedSheet (lengths columns text glyphs offsets rects : List ℕ) (s : Outcome) : Type 0 where
   pub sheet : Sheet lengths columns text
+  pub fewBytes : length text ≤ maxBytes
   pub roomy : Roomy (length lengths) (s .width) glyphs offsets
   pub rectRoom : rectSpace ≤ length rects
   pub through : Through (gridOf (linesFrom lengths columns text)) glyphs offsets rects s

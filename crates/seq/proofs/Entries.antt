@@ -4,9 +4,10 @@ use Prim.Native.Nat.{ℕ, _+_, _*_, _≤_, _<_}
 use mathlib.Core.Path.{_≡_, refl, sym, ap, _∙_}
 use mathlib.Core.List.{List, [], _∷_, _++_, flatMap, append-nil, append-assoc}
 use native.Mathlib.Omega.{arith}
-use native.Mathlib.Nat.{add-zero, mul-zero, mul-suc, mul-le-mul-left}
+use native.Mathlib.Nat.{add-zero, mul-suc, mul-le-mul-left}
 use native.Mathlib.Numerals.{add-one}
 use lib.ListN.{length, take, drop, getD, length-append, length-drop, take-append-drop}
+use Rattle.seq.proofs.FlatMaps.{flatMap-append, length-flatMap}
 use lib.Seq.{sets, sets-eq, take-all, take-at, drop-append-add, drop-drop, take-suc, length-take-le}
 
 -- a part written over what lies after the part before it
@@ -17,27 +18,17 @@ pasted done vs buffer out at e g = rw (g, take-at done (drop at buffer) at e) (a
   rest = rw (← e) (drop-append-add done (drop (length done) buffer) (length vs) ∙ drop-drop (length vs) (length done) buffer)
 
 module _ {B : Type 0} (f : B → List ℕ) where
-  flatMap-append : (s t : List B) → flatMap f (s ++ t) ≡ flatMap f s ++ flatMap f t
-  unfolding flatMap
-  flatMap-append [] t = refl
-  flatMap-append (b ∷ s) t = rw (flatMap-append s t) (sym (append-assoc (f b) (flatMap f s) (flatMap f t)))
-
   flatMap-more : (l : List B) (k : ℕ) (d : B) → k < length l → flatMap f (take (k + 1) l) ≡ flatMap f (take k l) ++ f (getD l k d)
   unfolding flatMap
   flatMap-more l k d h =
-      rw (add-one k, take-suc l k d h) (flatMap-append (take k l) (getD l k d ∷ []) ∙ rw (append-nil (f (getD l k d))))
+      rw (add-one k, take-suc l k d h) (flatMap-append f (take k l) (getD l k d ∷ []) ∙ rw (append-nil (f (getD l k d))))
 
   pub length-more : (l : List B) (k : ℕ) (d : B) → k < length l → length (flatMap f (take (k + 1) l)) ≡ length (flatMap f (take k l)) + length (f (getD l k d))
   length-more l k d h = rw (flatMap-more l k d h) (length-append (flatMap f (take k l)) (f (getD l k d)))
 
-  pub length-all : (c : ℕ) → ((b : B) → length (f b) ≡ c) → (l : List B) → length (flatMap f l) ≡ c * length l
-  unfolding flatMap
-  length-all c each [] = sym (mul-zero c)
-  length-all c each (b ∷ l) = rw (length-append, each b, length-all c each l, mul-suc c (length l)) (omega arith)
-
   pub first-shorter : (l : List B) (k : ℕ) → length (flatMap f (take k l)) ≤ length (flatMap f l)
   first-shorter l k =
-      let parts : flatMap f l ≡ flatMap f (take k l) ++ flatMap f (drop k l) = ap (flatMap f) (sym (take-append-drop k l)) ∙ flatMap-append (take k l) (drop k l) in
+      let parts : flatMap f l ≡ flatMap f (take k l) ++ flatMap f (drop k l) = ap (flatMap f) (sym (take-append-drop k l)) ∙ flatMap-append f (take k l) (drop k l) in
       omega (arith, ap length parts, length-append (flatMap f (take k l)) (flatMap f (drop k l)))
 
   -- from an entry on, the entries of the first k
@@ -72,7 +63,7 @@ module _ {B : Type 0} (f : B → List ℕ) where
     pub write-sets : (c : ℕ) → ((b : B) → length (f b) ≡ c) → from + c * length l ≤ length buffer
         → Written l from buffer (k + 1) (sets out (from + c * k) (f (getD l k d)))
     write-sets c each room =
-        let before : length (flatMap f (take k l)) ≡ c * k = length-all c each (take k l) ∙ rw (length-take-le k l (omega arith)) in
+        let before : length (flatMap f (take k l)) ≡ c * k = length-flatMap c f (take k l) each ∙ rw (length-take-le k l (omega arith)) in
         let next : c * k + c ≤ c * length l = rw mul-suc at (mul-le-mul-left c h) in
         let fits : from + c * k + length (f (getD l k d)) ≤ length buffer = omega (arith, each (getD l k d)) in
         write-more (from + c * k) (sets out (from + c * k) (f (getD l k d))) (rw before) fits

@@ -1,8 +1,9 @@
 -- Laws of flatMap: lists end to end.
 -- Assumes nothing.
-use Prim.Native.Nat.{ℕ, _+_, _*_}
-use mathlib.Core.Path.{_≡_, refl, sym, ap, _∙_}
-use mathlib.Core.List.{List, [], _∷_, _++_, map, flatMap, append-assoc, List·Memᴰ, List·Memᴰ·head, List·Memᴰ·tail}
+use Prim.Native.Nat.{ℕ, _*_}
+use mathlib.Core.Path.{_≡_, refl, _∙_}
+use mathlib.Core.List.{List, [], _∷_, _++_, map, flatMap, append-assoc, List·Memᴰ, List·Memᴰ·head, List·Memᴰ·tail, List·Memᴰ·append-cases}
+use mathlib.Core.Logic.{_⊎_, inl, inr}
 use native.Mathlib.Nat.{mul-suc}
 use native.Mathlib.Omega.{arith}
 use lib.ListN.{length, length-append}
@@ -10,6 +11,10 @@ use Rattle.seq.specs.Lists.{sum}
 
 module _ {A B : Type 0} where
   -- two functions that agree on the list's members
+  pub map-same : (f g : A → B) (l : List A) → ((a : A) → List·Memᴰ a l → f a ≡ g a) → map f l ≡ map g l
+  map-same f g [] e = refl
+  map-same f g (a ∷ l) e = rw (e a (List·Memᴰ·head refl), map-same f g l (λ b m. e b (List·Memᴰ·tail m)))
+
   pub flatMap-same : (f g : A → List B) (l : List A) → ((a : A) → List·Memᴰ a l → f a ≡ g a) → flatMap f l ≡ flatMap g l
   unfolding flatMap
   flatMap-same f g [] h = refl
@@ -26,6 +31,16 @@ module _ {A B : Type 0} where
   unfolding flatMap sum
   length-flatMap-sum f [] = refl
   length-flatMap-sum f (a ∷ l) = rw (length-append, length-flatMap-sum f l)
+
+  -- what stands in one of the lists
+  pub mem-flatMap : (f : A → List B) (l : List A) {b : B} → List·Memᴰ b (flatMap f l) → (a : A) × List·Memᴰ a l × List·Memᴰ b (f a)
+  unfolding flatMap
+  mem-flatMap f [] m = elim m [ ]
+  mem-flatMap f (a ∷ l) {b} m = go (List·Memᴰ·append-cases (f a) m) (mem-flatMap f l) where
+    go : List·Memᴰ b (f a) ⊎ List·Memᴰ b (flatMap f l) → (List·Memᴰ b (flatMap f l) → (c : A) × List·Memᴰ c l × List·Memᴰ b (f c))
+        → (c : A) × List·Memᴰ c (a ∷ l) × List·Memᴰ b (f c)
+    go (inl here) later = (a, List·Memᴰ·head refl, here)
+    go (inr n) later = let found = later n in (found .0, List·Memᴰ·tail (found .1), found .2)
 
   pub flatMap-append : (f : A → List B) (k l : List A) → flatMap f (k ++ l) ≡ flatMap f k ++ flatMap f l
   unfolding flatMap

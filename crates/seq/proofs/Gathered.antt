@@ -33,13 +33,13 @@ sum-within (n ∷ l) zero = omega arith
 sum-within (n ∷ l) (suc i) = omega (arith, sum-within l i)
 
 -- one number more
-range-suc : (from count : ℕ) → range from (suc count) ≡ range from count ++ (from + count) ∷ []
+pub range-more : (from count : ℕ) → range from (suc count) ≡ range from count ++ (from + count) ∷ []
 unfolding range
-range-suc from zero = rw (add-zero from)
-range-suc from (suc count) = ap (λ (l : List ℕ). from ∷ l) (range-suc (from + 1) count ∙ ap (λ (n : ℕ). range (from + 1) count ++ n ∷ []) (omega arith))
+range-more from zero = rw (add-zero from)
+range-more from (suc count) = ap (λ (l : List ℕ). from ∷ l) (range-more (from + 1) count ∙ ap (λ (n : ℕ). range (from + 1) count ++ n ∷ []) (omega arith))
 
 pub range-step : (from count : ℕ) → range from (count + 1) ≡ range from count ++ (from + count) ∷ []
-range-step from count = rw (add-one count) (range-suc from count)
+range-step from count = rw (add-one count) (range-more from count)
 
 pub select-append : {A : Type 0} (test : A → Bool) (k l : List A) → select test (k ++ l) ≡ select test k ++ select test l
 unfolding select

@@ -13,3 +13,4 @@ pub mod FlatMaps
 pub mod Gathered
 pub mod Entries
 pub mod Walks
+pub mod Sums

@@ -11,13 +11,7 @@ use lib.ListN.{length, take, drop, getD, length-drop, List·getD-eq-default}
 use lib.Seq.{drop-cons, take-suc, take-all, take-length}
 use borrow.Author.Tests.{leb-true, leb-false, ltb-true, ltb-false, lt-ltb, le-ltb}
 use Rattle.seq.specs.Lists.{within}
-
-pub true-false : true ≡ false → ⊥
-true-false e = let z : _≡_ {A = ℕ} 0 1 = cc in omega arith
-
-pub both-true : (t u : Bool) → t && u ≡ true → (t ≡ true) × (u ≡ true)
-both-true true u e = (refl, e)
-both-true false u e = absurd (true-false (sym e))
+use Rattle.seq.proofs.Tests.{true-not-false}
 
 -- ---- within
 module _ (a b x : ℕ) where
@@ -36,14 +30,14 @@ module _ (a b x : ℕ) where
   pub within-low : within a b x ≡ true → a ≤ x
   within-low e = go (ltb x a) refl where
     go : (t : Bool) → ltb x a ≡ t → a ≤ x
-    go true f = let z : true ≡ false = sym e ∙ within-below (ltb-true x a f) in absurd (true-false z)
+    go true f = let z : true ≡ false = sym e ∙ within-below (ltb-true x a f) in absurd (true-not-false z)
     go false f = ltb-false x a f
 
   pub within-high : within a b x ≡ true → x ≤ b
   within-high e = go (ltb x (b + 1)) refl where
     go : (t : Bool) → ltb x (b + 1) ≡ t → x ≤ b
     go true f = let h : x < b + 1 = ltb-true x (b + 1) f in omega arith
-    go false f = let h : b + 1 ≤ x = ltb-false x (b + 1) f in let z : true ≡ false = sym e ∙ within-above (omega arith) in absurd (true-false z)
+    go false f = let h : b + 1 ≤ x = ltb-false x (b + 1) f in let z : true ≡ false = sym e ∙ within-above (omega arith) in absurd (true-not-false z)
 
 -- the test as the code makes it
 pub within-tests : (a b x : ℕ) → leb a x && leb x b ≡ within a b x

@@ -24,7 +24,7 @@ getD-map f [] i d e h = absurd (omega arith)
 getD-map f (a ∷ l) zero d e h = refl
 getD-map f (a ∷ l) (suc i) d e h = getD-map f l i d e (omega arith)
 
-getD-range : (from count i d : ℕ) → i < count → getD (range from count) i d ≡ from + i
+pub getD-range : (from count i d : ℕ) → i < count → getD (range from count) i d ≡ from + i
 unfolding range
 getD-range from zero i d h = absurd (omega arith)
 getD-range from (suc count) zero d h = omega arith

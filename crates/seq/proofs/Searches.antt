@@ -10,7 +10,7 @@ use native.Mathlib.Omega.{arith}
 use native.Mathlib.Nat.{eq-or-lt-of-le}
 use lib.ListN.{length, getD}
 use Rattle.seq.specs.Lists.{range, all, any, select, consIf, count, orNext, firstSome, firstAt, someIf, neighbours}
-use Rattle.seq.proofs.Tests.{true-not-false, and-left, and-right, and-intro, or-cases, or-left, or-right, refused, bit, bit-true, bit-false}
+use Rattle.seq.proofs.Tests.{true-not-false, and-left, and-right, and-intro, or-cases, or-left, or-right, refused, bit, bit-true, bit-false, bit-one}
 use Rattle.seq.proofs.Ranges.{mem-range, range-mem}
 
 module _ {A : Type 0} (test : A → Bool) where
@@ -38,6 +38,12 @@ module _ {A : Type 0} (test : A → Bool) where
   mem-any (List·Memᴰ·head {x} {xs} q) e = or-left (any test xs) (rw q at e)
   mem-any (List·Memᴰ·tail {x} {xs} m) e = or-right (test x) (mem-any m e)
 
+  pub any-none : {l : List A} → any test l ≡ false → {a : A} → List·Memᴰ a l → test a ≡ false
+  any-none e {a} m = refused (test a) (λ t. true-not-false (sym (mem-any m t) ∙ e))
+
+  pub none-any : (l : List A) → ((a : A) → List·Memᴰ a l → test a ≡ false) → any test l ≡ false
+  none-any l h = refused (any test l) (λ e. let found = any-mem l e in true-not-false (sym (found .2) ∙ h (found .0) (found .1)))
+
   pub select-mem : (l : List A) {a : A} → List·Memᴰ a (select test l) → List·Memᴰ a l × (test a ≡ true)
   unfolding select
   select-mem [] m = elim m [ ]
@@ -62,6 +68,11 @@ module _ {A : Type 0} (test : A → Bool) where
     go : (t : Bool) → length (consIf t a (select test l)) ≡ bit t + count test l
     go true = omega arith
     go false = omega arith
+
+  pub count-few : (l : List A) → count test l ≤ length l
+  unfolding select
+  count-few [] = omega arith
+  count-few (a ∷ l) = omega (arith, count-cons a l, bit-one (test a), count-few l)
 
   pub count-mem : {l : List A} {a : A} → List·Memᴰ a l → test a ≡ true → 0 < count test l
   count-mem (List·Memᴰ·head {x} {xs} q) e = let f : test x ≡ true = rw q at e in omega (arith, count-cons x xs, bit-true f)

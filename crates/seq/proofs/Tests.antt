@@ -11,13 +11,15 @@ use borrow.Author.Tests.{leb-true, leb-false, ltb-true, eqb-true, lt-ltb, eq-eqb
 pub true-not-false : true ≡ false → ⊥
 true-not-false e = let z : _≡_ {A = ℕ} 0 1 = cc in omega arith
 
+pub both-true : (t u : Bool) → t && u ≡ true → (t ≡ true) × (u ≡ true)
+both-true true u e = (refl, e)
+both-true false u e = absurd (true-not-false (sym e))
+
 pub and-left : (t u : Bool) → t && u ≡ true → t ≡ true
-and-left true u e = refl
-and-left false u e = e
+and-left t u e = both-true t u e .0
 
 pub and-right : (t u : Bool) → t && u ≡ true → u ≡ true
-and-right true u e = e
-and-right false u e = absurd (true-not-false (sym e))
+and-right t u e = both-true t u e .1
 
 pub and-intro : {t u : Bool} → t ≡ true → u ≡ true → t && u ≡ true
 and-intro {t} {u} e f = rw (e, f)
@@ -29,6 +31,9 @@ or-cases false u e = inr e
 pub or-neither : (t u : Bool) → t || u ≡ false → (t ≡ false) × (u ≡ false)
 or-neither true u e = absurd (true-not-false e)
 or-neither false u e = (refl, e)
+
+pub or-none : {t u : Bool} → t ≡ false → u ≡ false → t || u ≡ false
+or-none e f = rw (e, f)
 
 pub or-left : {t : Bool} (u : Bool) → t ≡ true → t || u ≡ true
 or-left {t} u e = rw e
@@ -57,6 +62,10 @@ bit-true e = rw e
 
 pub bit-false : {t : Bool} → t ≡ false → bit t ≡ 0
 bit-false e = rw e
+
+pub bit-one : (t : Bool) → bit t ≤ 1
+bit-one true = omega arith
+bit-one false = omega arith
 
 -- ---- the order of two pairs of numbers by the first, then the second
 module _ (a b c d : ℕ) where

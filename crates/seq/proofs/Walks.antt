@@ -1,7 +1,7 @@
 -- Laws of a walk along a list: one step of a sum, a search and a selection.
 -- Assumes nothing.
 use Prim.Native.Nat.{ℕ, zero, suc, _+_, _≤_, _<_}
-use mathlib.Core.Path.{_≡_, refl, sym, ap, _∙_}
+use mathlib.Core.Path.{_≡_, refl, sym}
 use mathlib.Core.Bool.{Bool, true, false, _||_}
 use mathlib.Core.List.{List, [], _∷_, _++_, map, List·Memᴰ, List·Memᴰ·head, List·Memᴰ·tail}
 use native.Mathlib.Omega.{arith}
@@ -10,7 +10,7 @@ use lib.Dec.{eqb}
 use lib.ListN.{length, take, drop, getD, drop-of-length-le}
 use borrow.Author.Tests.{eqb-true, eqb-false, eq-eqb, ne-eqb}
 use lib.Seq.{drop-nil}
-use Rattle.seq.specs.Lists.{range, sum, any, consIf, select}
+use Rattle.seq.specs.Lists.{sum, any, select}
 use Rattle.seq.proofs.ListsLaws.{drop-step}
 
 -- two tests of equal numbers that hold together
@@ -20,9 +20,9 @@ eqb-same a b c d there back = go (eqb a b) refl where
   go true e = rw e (sym (eq-eqb c d (there (eqb-true a b e))))
   go false e = rw e (sym (ne-eqb c d (λ f. eqb-false a b e (back f))))
 
-pub sum-step : (s : List ℕ) (i : ℕ) → sum (drop i s) ≡ getD s i 0 + sum (drop (i + 1) s)
+pub sum-after : (s : List ℕ) (i : ℕ) → sum (drop i s) ≡ getD s i 0 + sum (drop (i + 1) s)
 unfolding sum
-sum-step s i = rw (add-one i) (go s i) where
+sum-after s i = rw (add-one i) (go s i) where
   go : (s : List ℕ) (i : ℕ) → sum (drop i s) ≡ getD s i 0 + sum (drop (suc i) s)
   go [] i = rw (drop-nil i) (omega arith)
   go (n ∷ ns) zero = refl
@@ -61,22 +61,6 @@ module _ {A : Type 0} (test : A → Bool) where
   any-append [] t = refl
   any-append (a ∷ s) t = rw (any-append s t) (sym (or-assoc (test a) (any test s) (any test t)))
 
-  pub select-append : (s t : List A) → select test (s ++ t) ≡ select test s ++ select test t
-  unfolding select
-  select-append [] t = refl
-  select-append (a ∷ s) t = rw (select-append s t) (go (test a)) where
-    go : (u : Bool) → consIf u a (select test s ++ select test t) ≡ consIf u a (select test s) ++ select test t
-    go true = refl
-    go false = refl
-
-pub range-more : (from count : ℕ) → range from (suc count) ≡ range from count ++ (from + count) ∷ []
-unfolding range
-range-more from zero = ap (λ (n : ℕ). n ∷ []) (omega arith)
-range-more from (suc count) =
-    let e : from + suc count ≡ from + 1 + count = omega arith in
-    rw e (ap (λ (l : List ℕ). from ∷ l) (range-more (from + 1) count))
-
--- tests that give the same on a list select the same
 pub select-agree : {A : Type 0} (test other : A → Bool) (l : List A) → ((a : A) → List·Memᴰ a l → test a ≡ other a) → select test l ≡ select other l
 unfolding select
 select-agree test other [] h = refl
@@ -87,12 +71,6 @@ module _ {A : Type 0} (test : A → Bool) where
   unfolding select
   select-all [] h = refl
   select-all (a ∷ l) h = rw (h a (List·Memᴰ·head refl), select-all l (λ b m. h b (List·Memᴰ·tail m)))
-
-pub getD-range : (from count i : ℕ) → i < count → getD (range from count) i 0 ≡ from + i
-unfolding range
-getD-range from zero i h = absurd (omega arith)
-getD-range from (suc count) zero h = omega arith
-getD-range from (suc count) (suc i) h = getD-range (from + 1) count i (omega arith) ∙ omega arith
 
 pub sum-more : {A : Type 0} (f : A → ℕ) (l : List A) (k : ℕ) (d : A) → k < length l → sum (map f (take (k + 1) l)) ≡ sum (map f (take k l)) + f (getD l k d)
 unfolding sum

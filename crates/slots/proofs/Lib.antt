@@ -4,3 +4,4 @@ pub mod ReplaceLaws
 pub mod GlyphLaws
 pub mod LineLaws
 pub mod SheetLaws
+pub mod PlainLaws

@@ -130,16 +130,16 @@ module _ (line : List ℕ) (rule : Bool) (first at width : ℕ) (glyphs₀ offse
             offsetsHold = λ full. absurd (true-not-false (sym full));
           }
 
-      pub line-next : (code : ℕ) (glyphs′ offsets′ : List ℕ) → n + count ≤ width → at + width ≤ length glyphs₀ → at + width ≤ length offsets₀
-          → code ≡ glyphCode (glyphOf rule value) → glyphs′ ≡ replaced glyphs (at + n) (replicate count code) → offsets′ ≡ replaced offsets (at + n) (replicate count byte)
+      pub line-next : (glyphs′ offsets′ : List ℕ) → n + count ≤ width → at + width ≤ length glyphs₀ → at + width ≤ length offsets₀
+          → glyphs′ ≡ replaced glyphs (at + n) (replicate count (glyphCode (glyphOf rule value))) → offsets′ ≡ replaced offsets (at + n) (replicate count byte)
           → LineSoFar line rule first at width glyphs₀ offsets₀ glyphs′ offsets′ (byte + size) (n + count)
-      line-next code glyphs′ offsets′ fits room room′ coded put put′ =
+      line-next glyphs′ offsets′ fits room room′ put put′ =
           let slots = slotsOf line rule first in
           let slot : Slot = record { glyph = glyphOf rule value; byte = byte } in
           let rest = slotsFrom rule (first + (n + count)) (charsFrom (byte + size) 0 (drop (byte + size) line)) in
           let (glyphs-kept, glyphs-hold) =
           array-next slots rest slot n count (so-far .inside) next (λ s. glyphCode (s .glyph)) at glyphs₀ glyphs glyphs′ (omega arith)
-          (so-far .glyphsKept) (so-far .glyphsHold) (rw (← coded) put) in
+          (so-far .glyphsKept) (so-far .glyphsHold) put in
           let (offsets-kept, offsets-hold) =
           array-next slots rest slot n count (so-far .inside) next (λ s. s .byte) at offsets₀ offsets offsets′ (omega arith)
           (so-far .offsetsKept) (so-far .offsetsHold) put′ in

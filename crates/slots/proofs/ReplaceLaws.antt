@@ -66,6 +66,9 @@ module _ (at v : ℕ) (array₀ array : List ℕ) (i count : ℕ) (so-far : PutS
             ∙ replaced-more array₀ at (replicate i v) (rw length-replicate (omega arith)) (v ∷ [])
             ∙ ap (replaced array₀ at) (replicate-append-replicate i 1 v)
 
+  pub put-next-is : (code : ℕ) → code ≡ v → i < count → at + count ≤ length array₀ → PutSoFar at v array₀ (set array (at + i) code) (i + 1)
+  put-next-is code e h room = rw e (put-next h room)
+
   pub put-ends : i ≤ count → count ≤ i → array ≡ replaced array₀ at (replicate count v)
   put-ends low high = let e : count ≡ i = omega arith in rw e (so-far .entries)
 

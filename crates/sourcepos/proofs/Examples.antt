@@ -7,7 +7,6 @@ use lib.ListN.{replicate}
 use Rattle.seq.specs.Ascii.{ascii}
 use Rattle.grid.specs.Answer.{accept, refuse}
 use Rattle.grid.specs.LayoutCall.{LayoutSpace}
-use Rattle.grid.specs.TableCall.{tableSpace}
 use Rattle.sourcepos.specs.Computing.{positions}
 use Rattle.sourcepos.specs.PositionsCall.{FlatPlaced, PositionArrays, positionsAnswer, positionsAfterwards, cellPositionAnswer}
 use Rattle.sourcepos.specs.LineEnds.{CellLineEnd, findEol}
@@ -36,12 +35,12 @@ given tableBytes =
 abbrev lent : List ℕ → PositionArrays
 lent cells = record { rows = replicate 9 9; cells = cells }
 
-table-position : positionsAnswer space tableSpace (given (2 ∷ 2 ∷ 2 ∷ 2 ∷ [])) (lent (replicate 12 9))
+table-position : positionsAnswer space 128 (given (2 ∷ 2 ∷ 2 ∷ 2 ∷ [])) (lent (replicate 12 9))
     ≡ accept (record { table = record { startLine = 4; startColumn = 3; endLine = 7; endColumn = 7 }; rows = 2; cells = 3 })
 unfolding positions
 table-position = refl
 
-rows-and-cells : positionsAfterwards space tableSpace (given (2 ∷ 2 ∷ 2 ∷ 2 ∷ [])) (lent (replicate 12 9))
+rows-and-cells : positionsAfterwards space 128 (given (2 ∷ 2 ∷ 2 ∷ 2 ∷ [])) (lent (replicate 12 9))
     ≡ record {
       rows = 4 ∷ 3 ∷ 4 ∷ 2 ∷ 6 ∷ 3 ∷ 6 ∷ 7 ∷ 9 ∷ [];
       cells = 4 ∷ 3 ∷ 4 ∷ 2 ∷ 6 ∷ 4 ∷ 6 ∷ 4 ∷ 6 ∷ 6 ∷ 6 ∷ 6 ∷ [];
@@ -49,27 +48,27 @@ rows-and-cells : positionsAfterwards space tableSpace (given (2 ∷ 2 ∷ 2 ∷ 
 unfolding positions
 rows-and-cells = refl
 
-cells-too-short : positionsAnswer space tableSpace (given (2 ∷ 2 ∷ 2 ∷ 2 ∷ [])) (lent (replicate 11 9)) ≡ refuse 12 0
+cells-too-short : positionsAnswer space 128 (given (2 ∷ 2 ∷ 2 ∷ 2 ∷ [])) (lent (replicate 11 9)) ≡ refuse 12 0
 unfolding positions
 cells-too-short = refl
 
-refused-positions-write-nothing : positionsAfterwards space tableSpace (given (2 ∷ 2 ∷ 2 ∷ 2 ∷ [])) (lent (replicate 11 9)) ≡ lent (replicate 11 9)
+refused-positions-write-nothing : positionsAfterwards space 128 (given (2 ∷ 2 ∷ 2 ∷ 2 ∷ [])) (lent (replicate 11 9)) ≡ lent (replicate 11 9)
 unfolding positions
 refused-positions-write-nothing = refl
 
-byte-past-its-limit : cellPositionAnswer space tableSpace (given (2 ∷ 2 ∷ 65536 ∷ 2 ∷ [])) 0 ≡ refuse 2 0
+byte-past-its-limit : cellPositionAnswer space 128 (given (2 ∷ 2 ∷ 65536 ∷ 2 ∷ [])) 0 ≡ refuse 2 0
 unfolding positions
 byte-past-its-limit = refl
 
-bytes-contradict : cellPositionAnswer space tableSpace (given (2 ∷ 2 ∷ 65536 ∷ [])) 0 ≡ refuse 13 0
+bytes-contradict : cellPositionAnswer space 128 (given (2 ∷ 2 ∷ 65536 ∷ [])) 0 ≡ refuse 13 0
 unfolding positions
 bytes-contradict = refl
 
-cell-past-the-end : cellPositionAnswer space tableSpace (given (2 ∷ 2 ∷ 2 ∷ 2 ∷ [])) 3 ≡ refuse 13 0
+cell-past-the-end : cellPositionAnswer space 128 (given (2 ∷ 2 ∷ 2 ∷ 2 ∷ [])) 3 ≡ refuse 13 0
 unfolding positions
 cell-past-the-end = refl
 
-last-cell : cellPositionAnswer space tableSpace (given (2 ∷ 2 ∷ 2 ∷ 2 ∷ [])) 2
+last-cell : cellPositionAnswer space 128 (given (2 ∷ 2 ∷ 2 ∷ 2 ∷ [])) 2
     ≡ accept (record { startLine = 6; startColumn = 6; endLine = 6; endColumn = 6 })
 unfolding positions
 last-cell = refl

@@ -2,8 +2,8 @@
 -- lines; a cell from its first inner line's table byte + range start + 1 to its last one's table byte + range end, the range being
 -- all bytes between the borders, untrimmed; a row or cell without inner lines, from the top line's table byte + 1 to that table byte."
 use Prim.Native.Nat.{ℕ, _+_, _-_}
-use mathlib.Core.Bool.{Bool, cond}
-use mathlib.Core.List.{List, [], _∷_, map}
+use mathlib.Core.Bool.{cond}
+use mathlib.Core.List.{List, [], _∷_}
 use lib.ListN.{length, getD}
 use lib.Dec.{ltb}
 use Rattle.seq.specs.Lists.{lastD}

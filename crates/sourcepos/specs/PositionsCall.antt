@@ -1,17 +1,17 @@
 -- The positions calls: "Positions check as reading does, with their line and byte numbers under 2."
 use Prim.Native.Nat.{ℕ}
 use mathlib.Core.Bool.{Bool, not, _&&_, _||_}
-use mathlib.Core.List.{List, [], _∷_, map, flatMap}
+use mathlib.Core.List.{List, [], _∷_, flatMap}
 use lib.ListN.{length, getD}
 use lib.Dec.{eqb, leb, ltb}
 use Rattle.seq.specs.Lists.{any, isEmpty}
 use Rattle.grid.specs.Answer.{Answer, accept, refuseIf, andThen, afterwards, over}
 use Rattle.grid.specs.Limits.{maxRegister}
-use Rattle.grid.specs.Values.{Line, Layout}
+use Rattle.grid.specs.Values.{Layout}
 use Rattle.grid.specs.Read.{readLayout}
 use Rattle.grid.specs.Flat.{FlatDrawing, linesOf, shorter}
 use Rattle.grid.specs.LayoutCall.{LayoutSpace}
-use Rattle.grid.specs.TableCall.{readContradicts, noCell}
+use Rattle.grid.specs.TableCall.{startsShort, readContradicts, noCell}
 use Rattle.sourcepos.specs.Positions.{Sourcepos, Placed, tablePosition, rowPosition, cellPosition}
 
 -- a drawing as lent, with the number and the table byte of each line
@@ -22,7 +22,7 @@ pub record FlatPlaced : Type 0 where
 
 unfoldable pub placedContradicts : LayoutSpace → ℕ → FlatPlaced → Bool
 placedContradicts w space p =
-    readContradicts w space (p .drawing) || not (eqb (length (p .numbers)) (p .drawing .lines) && eqb (length (p .tableBytes)) (p .drawing .lines))
+    readContradicts w (startsShort space) (p .drawing) || not (eqb (length (p .numbers)) (p .drawing .lines) && eqb (length (p .tableBytes)) (p .drawing .lines))
 
 unfoldable pub placedOf : FlatPlaced → Placed
 placedOf p = record { lines = linesOf (p .drawing); numbers = p .numbers; tableBytes = p .tableBytes }

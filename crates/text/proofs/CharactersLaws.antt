@@ -1,12 +1,14 @@
 -- Laws of specs/Characters.antt.
 -- Assumes nothing.
-use Prim.Native.Nat.{ℕ, _≤_}
-use mathlib.Core.Path.{_≡_, refl, sym}
-use mathlib.Core.Bool.{Bool, true, false, cond}
+use Prim.Native.Nat.{ℕ, _≤_, _<_}
+use mathlib.Core.Path.{_≡_, refl, sym, _∙_}
+use mathlib.Core.Bool.{Bool, true, false, _&&_, _||_, cond}
 use native.Mathlib.Omega.{arith}
-use lib.Dec.{eqb}
-use borrow.Author.Tests.{ne-eqb}
-use Rattle.seq.proofs.ListsLaws.{true-false, within-in, within-above}
+use lib.Dec.{eqb, leb, ltb}
+use borrow.Author.Tests.{ltb-true, ltb-false, ne-eqb, le-leb, lt-leb}
+use Rattle.seq.proofs.Tests.{true-not-false}
+use Rattle.seq.proofs.ListsLaws.{within-in, within-above, within-below}
+use Rattle.seq.specs.Lists.{within}
 use Rattle.text.specs.declared.Width.{Width}
 use Rattle.text.specs.declared.Width.the-variants.{Columns, Outside}
 use Rattle.text.specs.Characters.{tab, takesOne, takesNone, takesTwo, widthOf, tabColumns, columnsOf, isColumns, inSet, span}
@@ -83,7 +85,90 @@ unfolding inSet
 known-width c e h = go (widthOf c) (rw (ne-eqb c tab h) at e) where
   go : (w : Width) → isColumns w ≡ true → w ≡ Columns (columnsOf w)
   go (Columns n) e = refl
-  go Outside e = absurd (true-false (sym e))
+  go Outside e = absurd (true-not-false (sym e))
+
+-- ---- the ranges stand in order, so a character's size says which to look at
+one-above : (c : ℕ) → 0x180 ≤ c → takesOne c ≡ false
+one-above c h = rw (within-above 0x20 0x7e c (omega arith), within-above 0xa1 0xac c (omega arith), within-above 0xae 0x17f c (omega arith))
+
+two-below : (c : ℕ) → c < 0x3041 → takesTwo c ≡ false
+two-below c h =
+    rw (
+      within-below 0x3041 0x3096 c (omega arith),
+      within-below 0x30a1 0x30fa c (omega arith),
+      within-below 0x4e00 0x9fff c (omega arith),
+      within-below 0xac00 0xd7a3 c (omega arith),
+      within-below 0xff01 0xff60 c (omega arith),
+    )
+
+in-set-other : (c : ℕ) → (c ≡ tab → ⊥) → inSet c ≡ isColumns (widthOf c)
+unfolding inSet
+in-set-other c h = rw (ne-eqb c tab h)
+
+set-up-to-marks : (c : ℕ) → 0x80 ≤ c → c < 0x3041 → (within 0x300 0x36f c || (within 0xa1 0xac c || within 0xae 0x17f c)) ≡ inSet c
+unfolding widthOf
+set-up-to-marks c low high =
+    go (within 0x300 0x36f c) (within 0xa1 0xac c || within 0xae 0x17f c)
+    ∙ sym (in-set-other c (λ e. omega arith) ∙ rw (within-above 0x20 0x7e c (omega arith), two-below c high)) where
+      go : (n o : Bool) → n || o ≡ isColumns (cond o (Columns 1) (cond n (Columns 0) Outside))
+      go true true = refl
+      go true false = refl
+      go false true = refl
+      go false false = refl
+
+set-past-marks : (c : ℕ) → 0x370 ≤ c → takesTwo c ≡ inSet c
+unfolding widthOf
+set-past-marks c low =
+    go (takesTwo c) ∙ sym (in-set-other c (λ e. omega arith) ∙ rw (one-above c (omega arith), within-above 0x300 0x36f c (omega arith))) where
+      go : (t : Bool) → t ≡ isColumns (cond t (Columns 2) Outside)
+      go true = refl
+      go false = refl
+
+pub set-of-two : (c : ℕ) (n a b : Bool) → c < 0x3041 → n ≡ within 0x300 0x36f c → a ≡ within 0xa1 0xac c → b ≡ within 0xae 0x17f c → (n || (a || b)) ≡ (leb 0x80 c && inSet c)
+set-of-two c n a b high e f g = rw (e, f, g) (go (ltb c 0x80) refl) where
+  go : (t : Bool) → ltb c 0x80 ≡ t → (within 0x300 0x36f c || (within 0xa1 0xac c || within 0xae 0x17f c)) ≡ (leb 0x80 c && inSet c)
+  go true e =
+      let h : c < 0x80 = ltb-true c 0x80 e in
+      rw (lt-leb 0x80 c h, within-below 0x300 0x36f c (omega arith), within-below 0xa1 0xac c (omega arith), within-below 0xae 0x17f c (omega arith))
+  go false e = let h : 0x80 ≤ c = ltb-false c 0x80 e in rw (le-leb 0x80 c h) (set-up-to-marks c h high)
+
+pub set-of-three : (c : ℕ) (t : Bool) → t ≡ takesTwo c → t ≡ (leb 0x800 c && inSet c)
+set-of-three c t e = e ∙ go (ltb c 0x800) refl where
+  go : (t : Bool) → ltb c 0x800 ≡ t → takesTwo c ≡ (leb 0x800 c && inSet c)
+  go true e = let h : c < 0x800 = ltb-true c 0x800 e in rw (lt-leb 0x800 c h) (two-below c (omega arith))
+  go false e = let h : 0x800 ≤ c = ltb-false c 0x800 e in rw (le-leb 0x800 c h) (set-past-marks c (omega arith))
+
+-- the columns of a character of the set, by its ranges
+module _ (column c : ℕ) (in-set : inSet c ≡ true) where
+  has-columns : (c ≡ tab → ⊥) → isColumns (widthOf c) ≡ true
+  has-columns no-tab = sym (in-set-other c no-tab) ∙ in-set
+
+  pub spans-one : (c ≡ 9 → ⊥) → c < 0x300 → 1 ≡ span column c
+  unfolding widthOf
+  spans-one no-tab h =
+      sym (span-other column c no-tab ∙ rw (within-below 0x300 0x36f c h, two-below c (omega arith))
+      (go (takesOne c) (rw (within-below 0x300 0x36f c h, two-below c (omega arith)) at (has-columns no-tab)))) where
+        go : (t : Bool) → isColumns (cond t (Columns 1) Outside) ≡ true → columnsOf (cond t (Columns 1) Outside) ≡ 1
+        go true e = refl
+        go false e = absurd (true-not-false (sym e))
+
+  pub spans-none : 0x300 ≤ c → c < 0x3041 → 0 ≡ span column c
+  unfolding widthOf
+  spans-none low high =
+      sym (span-other column c (λ e. omega arith) ∙ rw (one-above c (omega arith), two-below c high)
+      (go (within 0x300 0x36f c))) where
+        go : (t : Bool) → columnsOf (cond t (Columns 0) Outside) ≡ 0
+        go true = refl
+        go false = refl
+
+  pub spans-two : 0x3041 ≤ c → 2 ≡ span column c
+  unfolding widthOf
+  spans-two low =
+      sym (span-other column c (λ e. omega arith) ∙ rw (one-above c (omega arith), within-above 0x300 0x36f c (omega arith))
+      (go (takesTwo c) (rw (one-above c (omega arith), within-above 0x300 0x36f c (omega arith)) at (has-columns (λ e. omega arith))))) where
+        go : (t : Bool) → isColumns (cond t (Columns 2) Outside) ≡ true → columnsOf (cond t (Columns 2) Outside) ≡ 2
+        go true e = refl
+        go false e = absurd (true-not-false (sym e))
 
 -- what the code's tests of a span say
 pub tab-spans : (column c r : ℕ) → c ≡ 9 → r ≡ tabColumns column → r ≡ span column c

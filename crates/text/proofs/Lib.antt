@@ -2,4 +2,6 @@ pub mod CharactersLaws
 pub mod RuleLaws
 pub mod TrimLaws
 pub mod Utf8Laws
+pub mod PlainLaws
 mod Examples
+pub mod PartLaws

@@ -9,8 +9,9 @@ use native.Mathlib.Omega.{arith}
 use lib.Dec.{eqb}
 use lib.ListN.{length, take, drop, getD, drop-of-length-le}
 use borrow.Author.Tests.{eq-eqb, ne-eqb, not-true, not-false}
+use Rattle.seq.proofs.Tests.{true-not-false}
 use Rattle.seq.specs.Lists.{all, any, isEmpty}
-use Rattle.seq.proofs.ListsLaws.{true-false, drop-step, part-to-end, last-apart}
+use Rattle.seq.proofs.ListsLaws.{drop-step, part-to-end, last-apart}
 use Rattle.text.specs.Characters.{plus, colon}
 use Rattle.text.specs.Rule.{toPlus, partsAtPlus, ontoFirst, dropLeadingColon, dropTrailingColon, fills, isSegment, closedSegments, isRule}
 
@@ -69,7 +70,7 @@ unfolding partsAtPlus any
 parts-append [] s h = refl
 parts-append (b ∷ bs) s h = go (eqb b plus) (λ k. parts-append bs s k) h where
   go : (t : Bool) → (any (λ b. eqb b plus) bs ≡ false → partsAtPlus (bs ++ plus ∷ s) ≡ bs ∷ partsAtPlus s) → t || any (λ b. eqb b plus) bs ≡ false → cond t ([] ∷ partsAtPlus (bs ++ plus ∷ s)) (ontoFirst b (partsAtPlus (bs ++ plus ∷ s))) ≡ (b ∷ bs) ∷ partsAtPlus s
-  go true later h = absurd (true-false h)
+  go true later h = absurd (true-not-false h)
   go false later h = ap (ontoFirst b) (later h)
 
 pub rule-of-segments : (fill : ℕ) (part s : List ℕ) → any (λ b. eqb b plus) part ≡ false → isRule fill (plus ∷ part ++ plus ∷ s) ≡ isSegment fill part && isRule fill (plus ∷ s)

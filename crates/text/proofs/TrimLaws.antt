@@ -7,8 +7,9 @@ use mathlib.Core.List.{List, [], _∷_, _++_, append-nil, append-assoc}
 use native.Mathlib.Omega.{arith}
 use lib.ListN.{length, take, getD}
 use borrow.Author.Tests.{not-true, not-false}
+use Rattle.seq.proofs.Tests.{both-true}
 use Rattle.seq.specs.Lists.{all}
-use Rattle.seq.proofs.ListsLaws.{both-true, take-last}
+use Rattle.seq.proofs.ListsLaws.{take-last}
 use Rattle.text.specs.Trim.{blank, beforeTrimmed, trimEnd}
 
 -- ---- at the last byte

@@ -5,14 +5,15 @@ use mathlib.Core.Path.{_≡_, refl, sym, ap, _∙_}
 use mathlib.Core.Logic.{_⊎_, inl, inr, ⊎-elim}
 use mathlib.Core.Bool.{Bool, true, false, _&&_, cond}
 use mathlib.Core.List.{List, [], _∷_}
-use native.Mathlib.Nat.{add-zero}
+use native.Mathlib.Nat.{add-zero, eq-or-lt-of-le}
 use native.Mathlib.Omega.{arith}
 use lib.Dec.{leb, ltb}
 use lib.ListN.{length, drop, getD, length-drop, drop-of-length-le}
 use lib.Seq.{getD-drop, drop-drop}
-use borrow.Author.Tests.{lt-ltb, le-ltb}
+use borrow.Author.Tests.{leb-true, lt-ltb, le-ltb}
+use Rattle.seq.proofs.Tests.{true-not-false, both-true}
 use Rattle.seq.specs.Lists.{within}
-use Rattle.seq.proofs.ListsLaws.{true-false, both-true, within-low, read-some, drop-step}
+use Rattle.seq.proofs.ListsLaws.{within-low, read-some, drop-step}
 use Rattle.text.proofs.CharactersLaws.{ascii-in-set}
 use Rattle.text.specs.declared.Decoded.{Decoded}
 use Rattle.text.specs.declared.Decoded.the-variants.{Character, Refused}
@@ -28,7 +29,7 @@ module _ (a b : ℕ) (t : Bool) (e : t ≡ continues b) where
   unfolding fromTwo
   from-two-refused f = rw (← e, f)
 
-  pub from-two-is : (u : Bool) (r : Decoded) → t ≡ true → u ≡ inSet (twoBytes a b) → r ≡ characterIf (leb 0x80 (twoBytes a b) && u) (twoBytes a b) 2 → r ≡ fromTwo a b
+  pub from-two-is : (u : Bool) (r : Decoded) → t ≡ true → u ≡ (leb 0x80 (twoBytes a b) && inSet (twoBytes a b)) → r ≡ characterIf u (twoBytes a b) 2 → r ≡ fromTwo a b
   unfolding fromTwo
   from-two-is u r f g h = h ∙ rw (← e, f, g)
 
@@ -47,28 +48,28 @@ module _ (a b c : ℕ) (t u : Bool) (e : t ≡ continues b) (f : u ≡ continues
     go true u g = rw g
     go false u g = refl
 
-  pub from-three-is : (v : Bool) (r : Decoded) → t && u ≡ true → v ≡ inSet (threeBytes a b c) → r ≡ characterIf (leb 0x800 (threeBytes a b c) && v) (threeBytes a b c) 3 → r ≡ fromThree a b c
+  pub from-three-is : (v : Bool) (r : Decoded) → t && u ≡ true → v ≡ (leb 0x800 (threeBytes a b c) && inSet (threeBytes a b c)) → r ≡ characterIf v (threeBytes a b c) 3 → r ≡ fromThree a b c
   unfolding fromThree
   from-three-is v r g h k = k ∙ rw (← e, ← f, ← h) (go t u g) where
-    go : (t u : Bool) → t && u ≡ true → characterIf (leb 0x800 (threeBytes a b c) && v) (threeBytes a b c) 3 ≡ characterIf (t && (u && (leb 0x800 (threeBytes a b c) && v))) (threeBytes a b c) 3
+    go : (t u : Bool) → t && u ≡ true → characterIf v (threeBytes a b c) 3 ≡ characterIf (t && (u && v)) (threeBytes a b c) 3
     go true u g = rw g
-    go false u g = absurd (true-false (sym g))
+    go false u g = absurd (true-not-false (sym g))
 
 module _ (a b c : ℕ) where
-  pub decoded-one : (t : Bool) (r : Decoded) → a < 0x80 → t ≡ inSet a → r ≡ characterIf t a 1 → r ≡ decoded a b c
+  decoded-one : (t : Bool) (r : Decoded) → a < 0x80 → t ≡ inSet a → r ≡ characterIf t a 1 → r ≡ decoded a b c
   unfolding decoded
   decoded-one t r low e h = h ∙ rw (lt-ltb a 0x80 low, e)
 
   module _ (t : Bool) (high : 0x80 ≤ a) (e : t ≡ within 0xc0 0xdf a) where
-    pub decoded-two : (r : Decoded) → t ≡ true → r ≡ fromTwo a b → r ≡ decoded a b c
+    decoded-two : (r : Decoded) → t ≡ true → r ≡ fromTwo a b → r ≡ decoded a b c
     unfolding decoded
     decoded-two r f h = h ∙ rw (le-ltb a 0x80 high, ← e, f)
 
-    pub decoded-three : (u : Bool) (r : Decoded) → t ≡ false → u ≡ within 0xe0 0xef a → u ≡ true → r ≡ fromThree a b c → r ≡ decoded a b c
+    decoded-three : (u : Bool) (r : Decoded) → t ≡ false → u ≡ within 0xe0 0xef a → u ≡ true → r ≡ fromThree a b c → r ≡ decoded a b c
     unfolding decoded
     decoded-three u r f g k h = h ∙ rw (le-ltb a 0x80 high, ← e, f, ← g, k)
 
-    pub decoded-refused : (u : Bool) → t ≡ false → u ≡ within 0xe0 0xef a → u ≡ false → Refused ≡ decoded a b c
+    decoded-refused : (u : Bool) → t ≡ false → u ≡ within 0xe0 0xef a → u ≡ false → Refused ≡ decoded a b c
     unfolding decoded
     decoded-refused u f g k = rw (le-ltb a 0x80 high, ← e, f, ← g, k)
 
@@ -78,9 +79,23 @@ module _ (s : List ℕ) (at : ℕ) where
   unfolding character decoded inSet widthOf
   character-past h = rw (drop-of-length-le s h)
 
-  pub character-at : (a b c : ℕ) (r : Decoded) → a ≡ getD s at 0 → b ≡ getD s (at + 1) 0 → c ≡ getD s (at + 2) 0 → r ≡ decoded a b c → r ≡ character (drop at s)
+  character-at : (a b c : ℕ) (r : Decoded) → a ≡ getD s at 0 → b ≡ getD s (at + 1) 0 → c ≡ getD s (at + 2) 0 → r ≡ decoded a b c → r ≡ character (drop at s)
   unfolding character
   character-at a b c r e f g h = h ∙ simp (getD-drop, add-zero, e, f, g)
+
+  pub character-one : (a : ℕ) (t : Bool) (r : Decoded) → a ≡ getD s at 0 → a < 0x80 → t ≡ inSet a → r ≡ characterIf t a 1 → r ≡ character (drop at s)
+  character-one a t r e low is h = character-at a _ _ r e refl refl (decoded-one a _ _ t r low is h)
+
+  module _ (a b : ℕ) (t : Bool) (e : a ≡ getD s at 0) (f : b ≡ getD s (at + 1) 0) (high : 0x80 ≤ a) (two : t ≡ within 0xc0 0xdf a) where
+    pub character-two : (r : Decoded) → t ≡ true → r ≡ fromTwo a b → r ≡ character (drop at s)
+    character-two r is h = character-at a b _ r e f refl (decoded-two a b _ t high two r is h)
+
+    module _ (u : Bool) (not-two : t ≡ false) (three : u ≡ within 0xe0 0xef a) where
+      pub character-three : (c : ℕ) (r : Decoded) → c ≡ getD s (at + 2) 0 → u ≡ true → r ≡ fromThree a b c → r ≡ character (drop at s)
+      character-three c r g is h = character-at a b c r e f g (decoded-three a b c t high two u r not-two three is h)
+
+      pub character-none : u ≡ false → Refused ≡ character (drop at s)
+      character-none is = character-at a b _ Refused e f refl (decoded-refused a b _ t high two u not-two three is)
 
 -- ---- what a character is: in the set, of one to three bytes, the last of which is there
 known : (t : Bool) (w n v k : ℕ) → characterIf t w n ≡ Character v k → (t ≡ true) × (w ≡ v) × (n ≡ k)
@@ -90,7 +105,7 @@ known false w n v k e = absurd (let z : _≡_ {A = ℕ} 0 1 = cc in omega arith)
 -- of the first three bytes and the character that they make
 record Made (a b c v k : ℕ) : Type 0 where
   in-set : inSet v ≡ true
-  last-byte : ((k ≡ 1) × (a ≡ v)) ⊎ (((k ≡ 2) × (continues b ≡ true)) ⊎ ((k ≡ 3) × (continues c ≡ true)))
+  last-byte : ((k ≡ 1) × (a ≡ v)) ⊎ (((k ≡ 2) × (continues b ≡ true) × (0x80 ≤ v)) ⊎ ((k ≡ 3) × (continues c ≡ true) × (0x80 ≤ v) × (continues b ≡ true)))
 
 module _ (a b c v k : ℕ) where
   made-of-one : characterIf (inSet a) a 1 ≡ Character v k → Made a b c v k
@@ -104,15 +119,18 @@ module _ (a b c v k : ℕ) where
       let w = twoBytes a b in
       let (t, same, n) = known (continues b && (leb 0x80 w && inSet w)) w 2 v k e in
       let (goes-on, rest) = both-true (continues b) (leb 0x80 w && inSet w) t in
-      record { in-set = rw same at (both-true (leb 0x80 w) (inSet w) rest .1); last-byte = inr (inl (sym n, goes-on)) }
+      let (large, in-set) = both-true (leb 0x80 w) (inSet w) rest in
+      record { in-set = rw same at in-set; last-byte = inr (inl (sym n, goes-on, omega (arith, leb-true 0x80 w large))) }
 
   made-of-three : fromThree a b c ≡ Character v k → Made a b c v k
   unfolding fromThree
   made-of-three e =
       let w = threeBytes a b c in
       let (t, same, n) = known (continues b && (continues c && (leb 0x800 w && inSet w))) w 3 v k e in
-      let (goes-on, rest) = both-true (continues c) (leb 0x800 w && inSet w) (both-true (continues b) (continues c && (leb 0x800 w && inSet w)) t .1) in
-      record { in-set = rw same at (both-true (leb 0x800 w) (inSet w) rest .1); last-byte = inr (inr (sym n, goes-on)) }
+      let (second, later) = both-true (continues b) (continues c && (leb 0x800 w && inSet w)) t in
+      let (goes-on, rest) = both-true (continues c) (leb 0x800 w && inSet w) later in
+      let (large, in-set) = both-true (leb 0x800 w) (inSet w) rest in
+      record { in-set = rw same at in-set; last-byte = inr (inr (sym n, goes-on, omega (arith, leb-true 0x800 w large), second)) }
 
   made : decoded a b c ≡ Character v k → Made a b c v k
   unfolding decoded
@@ -123,12 +141,28 @@ module _ (a b c v k : ℕ) where
     go false false true e = made-of-three e
     go false false false e = absurd (let z : _≡_ {A = ℕ} 0 1 = cc in omega arith)
 
+decoded-kept : (a b c b′ c′ v k : ℕ) → decoded a b c ≡ Character v k → (1 < k → b′ ≡ b) → (2 < k → c′ ≡ c) → decoded a b′ c′ ≡ Character v k
+unfolding decoded fromTwo fromThree
+decoded-kept a b c b′ c′ v k e second third = go (ltb a 0x80) (within 0xc0 0xdf a) (within 0xe0 0xef a) e where
+  go : (one two three : Bool) → cond one (characterIf (inSet a) a 1) (cond two (fromTwo a b) (cond three (fromThree a b c) Refused)) ≡ Character v k
+      → cond one (characterIf (inSet a) a 1) (cond two (fromTwo a b′) (cond three (fromThree a b′ c′) Refused)) ≡ Character v k
+  go true two three e = e
+  go false true three e =
+      let w = twoBytes a b in
+      let size = known (continues b && (leb 0x80 w && inSet w)) w 2 v k e .2 in
+      rw (second (omega arith)) e
+  go false false true e =
+      let w = threeBytes a b c in
+      let size = known (continues b && (continues c && (leb 0x800 w && inSet w))) w 3 v k e .2 in
+      rw (second (omega arith), third (omega arith)) e
+  go false false false e = e
+
 goes-on-some : (b : ℕ) → continues b ≡ true → b ≡ 0 → ⊥
 goes-on-some b e z = omega (arith, within-low 0x80 0xbf b e)
 
 set-some : (v : ℕ) → inSet v ≡ true → v ≡ 0 → ⊥
 unfolding inSet widthOf
-set-some v e z = true-false (sym e ∙ rw z)
+set-some v e z = true-not-false (sym e ∙ rw z)
 
 module _ (s : List ℕ) (v k : ℕ) (e : character s ≡ Character v k) where
   of-bytes : Made (getD s 0 0) (getD s 1 0) (getD s 2 0) v k
@@ -152,6 +186,24 @@ module _ (s : List ℕ) (v k : ℕ) (e : character s ≡ Character v k) where
       (λ h. omega (arith, read-some s 1 (goes-on-some (getD s 1 0) (h .1))))
       (λ h. omega (arith, read-some s 2 (goes-on-some (getD s 2 0) (h .1)))))
       (of-bytes .last-byte)
+
+  -- the bytes after its first go on with it
+  pub character-goes-on : (i : ℕ) → 1 ≤ i → i < k → continues (getD s i 0) ≡ true
+  character-goes-on i low high =
+      ⊎-elim (λ h. absurd (omega arith))
+      (⊎-elim (λ h. let one : i ≡ 1 = omega arith in rw one (h .1))
+      (λ h. ⊎-elim (λ (one : 1 ≡ i). rw (← one) (h .3)) (λ (more : 1 < i). let two : i ≡ 2 = omega arith in rw two (h .1)) (eq-or-lt-of-le low)))
+      (of-bytes .last-byte)
+
+  pub character-one-byte : v < 0x80 → getD s 0 0 ≡ v
+  character-one-byte low = ⊎-elim (λ h. h .1) (⊎-elim (λ h. absurd (omega arith)) (λ h. absurd (omega arith))) (of-bytes .last-byte)
+
+  -- and what follows them has no part in it
+  pub character-kept : (t : List ℕ) → ((i : ℕ) → i < k → getD t i 0 ≡ getD s i 0) → character t ≡ Character v k
+  unfolding character
+  character-kept t same =
+      rw (same 0 character-some-byte)
+      (decoded-kept (getD s 0 0) (getD s 1 0) (getD s 2 0) (getD t 1 0) (getD t 2 0) v k e (same 1) (same 2))
 
 pub character-ascii : (b : ℕ) (s : List ℕ) → 0x20 ≤ b → b ≤ 0x7e → character (b ∷ s) ≡ Character b 1
 unfolding character decoded
@@ -212,6 +264,9 @@ module _ (s : List ℕ) (at : ℕ) (d : Decoded) (is : d ≡ character (drop at 
         character-some-byte (drop at s) v k h,
         omega (arith, rw length-drop at (character-fits (drop at s) v k h), character-some-byte (drop at s) v k h),
       )
+
+  pub known-in-set : (v k : ℕ) → d ≡ Character v k → inSet v ≡ true
+  known-in-set v k e = character-in-set (drop at s) v k (cc)
 
   pub ill-formed : d ≡ Refused → at < length s → wellFormed s ≡ wellFrom 0 (drop at s) → false ≡ wellFormed s
   ill-formed e inside so-far = sym (so-far ∙ well-not s at (cc) inside)

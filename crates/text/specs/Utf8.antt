@@ -72,3 +72,8 @@ wellFrom (suc skip) (b ∷ bs) = wellFrom skip bs
 
 abbrev pub wellFormed : List ℕ → Bool
 wellFormed line = wellFrom 0 line
+
+-- a line of characters 20 to 7E alone: a byte and a column each
+unfoldable pub plain : List ℕ → Bool
+plain [] = true
+plain (b ∷ bs) = within 0x20 0x7e b && plain bs

@@ -2,11 +2,14 @@
 use crate::ByteAt;
 use crate::Decoded;
 use crate::characters::in_set;
+use crate::characters::in_set_of_three;
+use crate::characters::in_set_of_two;
 use crate::characters::within;
 ghost use mathlib.Core.Path.{_≡_};
 ghost use Prim.Native.Nat.{_≤_, _<_};
 ghost use lib.ListN.{drop, getD};
-ghost use Rattle.text.specs.Utf8.{character, characterIf, continues, decoded, fromTwo, fromThree, wellFormed};
+ghost use Rattle.seq.specs.Lists.{within as withinRange};
+ghost use Rattle.text.specs.Utf8.{character, characterIf, continues, fromTwo, fromThree, wellFormed, plain};
 
 // 0 past the end: it goes on with no character and is none of the set.
 fn byte_or_zero(text: &[u8], i: usize) -> u8
@@ -44,7 +47,7 @@ fn from_two(a: u32, b: u32) -> Decoded
 {
     if is_continuation(b) {
         let value = (a - 0xc0) * 64 + (b - 0x80);
-        return character_if((0x80 <= value) & in_set(value), value, 2);
+        return character_if(in_set_of_two(value), value, 2);
     }
     Decoded::Refused
 }
@@ -55,23 +58,7 @@ fn from_three(a: u32, b: u32, c: u32) -> Decoded
 {
     if is_continuation(b) & is_continuation(c) {
         let value = ((a - 0xe0) * 64 + (b - 0x80)) * 64 + (c - 0x80);
-        return character_if((0x800 <= value) & in_set(value), value, 3);
-    }
-    Decoded::Refused
-}
-
-fn from_bytes(a: u32, b: u32, c: u32) -> Decoded
-    requires { ⌜ (a < 256) × (b < 256) × (c < 256) ⌝ }
-    ensures { λ r. ⌜ r ≡ decoded a b c ⌝ }
-{
-    if a < 0x80 {
-        return character_if(in_set(a), a, 1);
-    }
-    if within(0xc0, 0xdf, a) {
-        return from_two(a, b);
-    }
-    if within(0xe0, 0xef, a) {
-        return from_three(a, b, c);
+        return character_if(in_set_of_three(value), value, 3);
     }
     Decoded::Refused
 }
@@ -84,13 +71,42 @@ pub fn decode(text: &[u8], at: ByteAt) -> Decoded
         return Decoded::Refused;
     }
     let a = byte_or_zero(text, at) as u32;
+    if a < 0x80 {
+        return character_if(in_set(a), a, 1);
+    }
     let b = byte_or_zero(text, at + 1) as u32;
-    let c = byte_or_zero(text, at + 2) as u32;
-    from_bytes(a, b, c)
+    if within(0xc0, 0xdf, a) {
+        return from_two(a, b);
+    }
+    if within(0xe0, 0xef, a) {
+        let c = byte_or_zero(text, at + 2) as u32;
+        return from_three(a, b, c);
+    }
+    Decoded::Refused
 }
 
-// Is a line UTF-8 throughout, with each of its characters in the set?
-pub fn well_formed(line: &[u8]) -> bool
+fn is_plain_byte(b: u8) -> bool
+    ensures { λ r. ⌜ r ≡ withinRange 0x20 0x7e b ⌝ }
+{
+    (0x20 <= b) & (b <= 0x7e)
+}
+
+// Are all characters of a line from 20 to 7E? No byte ends the loop, so that many are tested at a
+// time.
+pub fn is_plain(line: &[u8]) -> bool
+    ensures { λ r. ⌜ r ≡ plain (now (line .entry)) ⌝ }
+{
+    let mut all = true;
+    let mut i = 0;
+    while i < line.len() {
+        all = all & is_plain_byte(line[i]);
+        i += 1;
+    }
+    all
+}
+
+// well_formed, character by character.
+fn well_decoded(line: &[u8]) -> bool
     ensures { λ r. ⌜ r ≡ wellFormed (now (line .entry)) ⌝ }
 {
     let mut at = 0;
@@ -101,4 +117,14 @@ pub fn well_formed(line: &[u8]) -> bool
         at += size;
     }
     true
+}
+
+// Is a line UTF-8 throughout, with each of its characters in the set?
+pub fn well_formed(line: &[u8]) -> bool
+    ensures { λ r. ⌜ r ≡ wellFormed (now (line .entry)) ⌝ }
+{
+    if is_plain(line) {
+        return true;
+    }
+    well_decoded(line)
 }

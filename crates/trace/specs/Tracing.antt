@@ -1,9 +1,9 @@
 -- What the search, the skyline and tracing over arrays answer, in the terms of the grid.
-use Prim.Native.Nat.{ℕ, zero, suc, _+_, _*_, _-_, _≤_, _<_}
+use Prim.Native.Nat.{ℕ, _+_, _*_, _-_, _≤_, _<_}
 use mathlib.Core.Path.{_≡_}
-use mathlib.Core.List.{List, [], _∷_}
+use mathlib.Core.List.{List}
 use mathlib.Core.Option.{Option, none, some}
-use lib.ListN.{length, getD, take, drop, set}
+use lib.ListN.{length, getD, take, set}
 use Rattle.grid.specs.Values.{Rect}
 use Rattle.grid.specs.Trace.{Traced, covered, stopped, lowest, leftmost}
 use Rattle.grid.specs.LayoutCall.{slotSpace}

@@ -2,7 +2,7 @@
 use crate::Found;
 use grid::PLUS;
 use grid::STRIDE;
-ghost use Prim.Native.Nat.{_≤_, _<_, min};
+ghost use Prim.Native.Nat.{_<_, min};
 ghost use mathlib.Core.Path.{_≡_};
 ghost use Rattle.grid.specs.Rectangle.{firstRect};
 ghost use Rattle.grid.specs.Arrays.{arrayGrid};

@@ -3,7 +3,8 @@
 use borrow.Author.Needs.{needs}
 use denote.Ref.{now}
 use Rattle.layout.specs.Call.{arrays}
-use Rattle.layout.proofs.FinishNeeds.{entries-small, all-inside, cells-room, down-some, across-some, few-ranges, some-line, refused, head-line, writable, written}
+use Rattle.reading.proofs.SheetLaws.{entries-small, all-inside, cells-room, down-some, across-some, some-line, head-line}
+use Rattle.layout.proofs.FinishNeeds.{few-ranges, refused, writable, written}
 use Rattle.layout.proofs.finish.Statement.{statement}
 use Rattle.layout.proofs.finish.Tie as tie
 

@@ -9,7 +9,7 @@ use lib.ListN.{length, drop}
 use Rattle.seq.specs.Lists.{sum, firstAt}
 use Rattle.text.specs.Utf8.{wellFormed}
 use Rattle.grid.specs.Flat.{splitText}
-use Rattle.seq.proofs.Walks.{sum-step}
+use Rattle.seq.proofs.Walks.{sum-after}
 use Rattle.entries.proofs.CheckLaws.{line-passed, line-end, outside-here, inside-here, none-outside}
 use borrow.Author.Needs.{needs}
 use Rattle.entries.proofs.check.first_outside.Statement.{statement}
@@ -34,7 +34,7 @@ cast-end : tie.Need-cast-end Inv-loop μ-loop
 cast-end c = fits-16-64 (c .shared-slice-known3 .given _)
 
 add-end : tie.Need-add-end Inv-loop μ-loop
-add-end c = omega (arith, sum-step (c .before .before .before .before .before .args .lengths .now) (c .before .before .loop .y))
+add-end c = omega (arith, sum-after (c .before .before .before .before .before .args .lengths .now) (c .before .before .loop .y))
 
 sub-well-formed : tie.Need-sub-well-formed Inv-loop μ-loop
 sub-well-formed c = omega arith

@@ -2,18 +2,23 @@
 -- Assumes nothing.
 use Prim.Native.Nat.{_-_, _≤_}
 use borrow.Author.Needs.{needs}
-use Rattle.slots.proofs.ReplaceLaws.{PutSoFar, put-starts, put-next, put-ends}
+use Rattle.grid.specs.Slots.{glyphOf}
+use Rattle.grid.specs.Arrays.{glyphCode}
+use Rattle.slots.proofs.ReplaceLaws.{PutSoFar, put-starts, put-next, put-next-is, put-ends}
 use Rattle.slots.proofs.fill.put_slots.Statement.{statement}
 use Rattle.slots.proofs.fill.put_slots.Tie as tie
 
 abbrev Inv-loop : tie.InvT-loop
-Inv-loop glyphs₀ offsets₀ at count glyph byte i₀ glyphs offsets i = (i ≤ count) × PutSoFar at glyph glyphs₀ glyphs i × PutSoFar at byte offsets₀ offsets i
+Inv-loop glyphs₀ offsets₀ at count rule value byte i₀ glyphs offsets i = (i ≤ count) × PutSoFar at (glyphCode (glyphOf rule value)) glyphs₀ glyphs i × PutSoFar at byte offsets₀ offsets i
 
 abbrev μ-loop : tie.MeasureT-loop
-μ-loop glyphs₀ offsets₀ at count glyph byte i₀ glyphs offsets i = count - i
+μ-loop glyphs₀ offsets₀ at count rule value byte i₀ glyphs offsets i = count - i
 
 loop-holds : tie.Need-loop-holds Inv-loop μ-loop
 loop-holds c = search (needs, put-starts)
+
+glyph-requires : tie.Need-glyph-requires Inv-loop μ-loop
+glyph-requires c κs = search needs
 
 add-glyphs : tie.Need-add-glyphs Inv-loop μ-loop
 add-glyphs c = search needs
@@ -37,7 +42,7 @@ loop-less : tie.Need-loop-less Inv-loop μ-loop
 loop-less c = search needs
 
 loop-again : tie.Need-loop-again Inv-loop μ-loop
-loop-again c = search (needs, put-next)
+loop-again c = search (needs, put-next, put-next-is)
 
 same-length : tie.Need-same-length Inv-loop μ-loop
 same-length c = search needs
@@ -55,6 +60,7 @@ put-slots-spec =
     Inv-loop
     μ-loop
     loop-holds
+    glyph-requires
     add-glyphs
     slice-write-glyphs
     add-offsets

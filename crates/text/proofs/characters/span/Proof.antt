@@ -2,11 +2,6 @@ use borrow.Author.Needs.{needs}
 use Rattle.text.proofs.CharactersLaws.{tab-spans, other-spans}
 use Rattle.text.proofs.characters.span.Statement.{statement}
 use Rattle.text.proofs.characters.span.Tie as tie
-use Rattle.text.proofs.characters.span.Reads as reads
-use Rattle.text.proofs.characters.span.Lts as lts
-use Rattle.text.proofs.characters.columns_or_zero.Reads as columns-or-zero-reads
-use Rattle.text.proofs.characters.tab_columns.Reads as tab-columns-reads
-use Rattle.text.proofs.characters.width.Reads as width-reads
 
 -- src/characters.rt:82:9
 tab-columns-requires : tie.Need-tab-columns-requires

@@ -32,8 +32,8 @@ sub-value-3 c = search (needs, third-low)
 add-value-2 : tie.Need-add-value-2
 add-value-2 c = search needs
 
-in-set-requires : tie.Need-in-set-requires
-in-set-requires c κs = search needs
+in-set-of-three-requires : tie.Need-in-set-of-three-requires
+in-set-of-three-requires c κs = search needs
 
 character-if-requires : tie.Need-character-if-requires
 character-if-requires c κs = search needs
@@ -57,7 +57,7 @@ from-three-spec =
     mul-value-2
     sub-value-3
     add-value-2
-    in-set-requires
+    in-set-of-three-requires
     character-if-requires
     returns
     returns-2)

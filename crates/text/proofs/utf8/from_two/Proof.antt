@@ -21,8 +21,8 @@ sub-value-2 c = within-low 0x80 0xbf _ (cc)
 add-value : tie.Need-add-value
 add-value c = search needs
 
-in-set-requires : tie.Need-in-set-requires
-in-set-requires c κs = search needs
+in-set-of-two-requires : tie.Need-in-set-of-two-requires
+in-set-of-two-requires c κs = search needs
 
 character-if-requires : tie.Need-character-if-requires
 character-if-requires c κs = search needs
@@ -42,7 +42,7 @@ from-two-spec =
     mul-value
     sub-value-2
     add-value
-    in-set-requires
+    in-set-of-two-requires
     character-if-requires
     returns
     returns-2)

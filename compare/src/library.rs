@@ -1,0 +1,406 @@
+//! The proved library's calls. Linked where `GRID_LIB_DIR` named its folder
+//! at the build.
+#![cfg_attr(not(all(grid_lib, grid_table, grid_cell)), allow(dead_code))]
+
+use std::io;
+
+/// Lengths of the working space that the layout call needs.
+pub const SLOT_SPACE: usize = 16_384;
+pub const RECT_SPACE: usize = 4_096;
+/// What the table call needs besides: where each line's text starts, and how
+/// many lines each cell has.
+pub const START_SPACE: usize = 128;
+pub const COUNT_SPACE: usize = 1_024;
+
+/// Whether the archive has the table call.
+pub const HAS_TABLE: bool = cfg!(grid_table);
+/// Whether it has the cell call.
+pub const HAS_CELL: bool = cfg!(grid_cell);
+
+/// A drawing as it is handed in.
+#[derive(Clone, Copy)]
+pub struct Drawing<'a> {
+    pub lines: usize,
+    pub bytes: usize,
+    pub lengths: &'a [u16],
+    pub columns: &'a [u16],
+    pub text: &'a [u8],
+}
+
+/// Working space.
+pub struct Space<'a> {
+    pub glyphs: &'a mut [u8],
+    pub offsets: &'a mut [u16],
+    pub down: &'a mut [u8],
+    pub right: &'a mut [u8],
+    pub rects: &'a mut [u8],
+}
+
+/// Output arrays: alignment and width of each column; section, top and bottom
+/// of each row; row, column, colspan, rowspan and left column of each cell;
+/// start and end of each range.
+pub struct Output<'a> {
+    pub columns: &'a mut [u16],
+    pub rows: &'a mut [u16],
+    pub cells: &'a mut [u16],
+    pub ranges: &'a mut [u16],
+}
+
+/// Number 0 is acceptance; a refusal has 0 for the values.
+#[repr(C)]
+#[derive(Clone, Copy, PartialEq, Eq, Debug, Default)]
+pub struct LayoutReply {
+    pub number: usize,
+    pub place: usize,
+    pub width: usize,
+    pub columns: usize,
+    pub rows: usize,
+    pub cells: usize,
+    pub ranges: usize,
+}
+
+/// A line's cut text as a range of it, with its line, byte and column.
+#[repr(C)]
+#[derive(Clone, Copy, PartialEq, Eq, Debug, Default)]
+pub struct CutReply {
+    pub number: usize,
+    pub place: usize,
+    pub start: usize,
+    pub end: usize,
+    pub line: usize,
+    pub byte: usize,
+    pub column: usize,
+}
+
+/// One cut: a line, its column, number and table byte, a range of it and the
+/// cell's left column.
+#[derive(Clone, Copy)]
+pub struct Cutting<'a> {
+    pub text: &'a [u8],
+    pub column: usize,
+    pub line: usize,
+    pub byte: usize,
+    pub start: usize,
+    pub end: usize,
+    pub left: usize,
+}
+
+/// Working space of the table call beside the layout call's.
+pub struct MoreSpace<'a> {
+    pub starts: &'a mut [u16],
+    pub counts: &'a mut [u8],
+}
+
+/// Output arrays of the table call: alignment and width of each column; each
+/// row's section; row, column, colspan, rowspan and number of lines of each
+/// cell; each line's length, and the lines' text.
+pub struct TableOutput<'a> {
+    pub columns: &'a mut [u16],
+    pub sections: &'a mut [u8],
+    pub cells: &'a mut [u16],
+    pub lengths: &'a mut [u16],
+    pub text: &'a mut [u8],
+}
+
+#[repr(C)]
+#[derive(Clone, Copy, PartialEq, Eq, Debug, Default)]
+pub struct TableReply {
+    pub number: usize,
+    pub place: usize,
+    pub columns: usize,
+    pub rows: usize,
+    pub cells: usize,
+    pub lines: usize,
+    pub bytes: usize,
+}
+
+/// How many cut lines were written: line, start, end and column of each.
+#[repr(C)]
+#[derive(Clone, Copy, PartialEq, Eq, Debug, Default)]
+pub struct CellReply {
+    pub number: usize,
+    pub place: usize,
+    pub lines: usize,
+}
+
+/// An error that says what to do where the library is not linked.
+pub fn linked() -> io::Result<()> {
+    if cfg!(grid_lib) {
+        return Ok(());
+    }
+    Err(io::Error::other(
+        "built without the proved library: set GRID_LIB_DIR to the folder of libabi.a and build again",
+    ))
+}
+
+#[cfg(grid_lib)]
+pub fn layout(drawing: Drawing<'_>, space: Space<'_>, output: Output<'_>) -> LayoutReply {
+    // SAFETY: each pointer and length come from one slice; the exclusive ones
+    // are apart from all others.
+    unsafe {
+        calls::grid_layout(
+            drawing.lines,
+            drawing.bytes,
+            drawing.lengths.as_ptr(),
+            drawing.lengths.len(),
+            drawing.columns.as_ptr(),
+            drawing.columns.len(),
+            drawing.text.as_ptr(),
+            drawing.text.len(),
+            space.glyphs.as_mut_ptr(),
+            space.glyphs.len(),
+            space.offsets.as_mut_ptr(),
+            space.offsets.len(),
+            space.down.as_mut_ptr(),
+            space.down.len(),
+            space.right.as_mut_ptr(),
+            space.right.len(),
+            space.rects.as_mut_ptr(),
+            space.rects.len(),
+            output.columns.as_mut_ptr(),
+            output.columns.len(),
+            output.rows.as_mut_ptr(),
+            output.rows.len(),
+            output.cells.as_mut_ptr(),
+            output.cells.len(),
+            output.ranges.as_mut_ptr(),
+            output.ranges.len(),
+        )
+    }
+}
+
+#[cfg(grid_lib)]
+pub fn cut(given: Cutting<'_>) -> CutReply {
+    // SAFETY: pointer and length come from one slice.
+    unsafe {
+        calls::grid_cell_fragment(
+            given.text.as_ptr(),
+            given.text.len(),
+            given.column,
+            given.line,
+            given.byte,
+            given.start,
+            given.end,
+            given.left,
+        )
+    }
+}
+
+#[cfg(grid_table)]
+pub fn table(
+    drawing: Drawing<'_>,
+    space: Space<'_>,
+    more: MoreSpace<'_>,
+    output: TableOutput<'_>,
+) -> TableReply {
+    // SAFETY: as for `layout`.
+    unsafe {
+        calls::grid_table(
+            drawing.lines,
+            drawing.bytes,
+            drawing.lengths.as_ptr(),
+            drawing.lengths.len(),
+            drawing.columns.as_ptr(),
+            drawing.columns.len(),
+            drawing.text.as_ptr(),
+            drawing.text.len(),
+            space.glyphs.as_mut_ptr(),
+            space.glyphs.len(),
+            space.offsets.as_mut_ptr(),
+            space.offsets.len(),
+            space.down.as_mut_ptr(),
+            space.down.len(),
+            space.right.as_mut_ptr(),
+            space.right.len(),
+            space.rects.as_mut_ptr(),
+            space.rects.len(),
+            more.starts.as_mut_ptr(),
+            more.starts.len(),
+            more.counts.as_mut_ptr(),
+            more.counts.len(),
+            output.columns.as_mut_ptr(),
+            output.columns.len(),
+            output.sections.as_mut_ptr(),
+            output.sections.len(),
+            output.cells.as_mut_ptr(),
+            output.cells.len(),
+            output.lengths.as_mut_ptr(),
+            output.lengths.len(),
+            output.text.as_mut_ptr(),
+            output.text.len(),
+        )
+    }
+}
+
+#[cfg(grid_cell)]
+pub fn cell(
+    drawing: Drawing<'_>,
+    space: Space<'_>,
+    starts: &mut [u16],
+    number: usize,
+    out: &mut [u16],
+) -> CellReply {
+    // SAFETY: as for `layout`.
+    unsafe {
+        calls::grid_cell(
+            drawing.lines,
+            drawing.bytes,
+            drawing.lengths.as_ptr(),
+            drawing.lengths.len(),
+            drawing.columns.as_ptr(),
+            drawing.columns.len(),
+            drawing.text.as_ptr(),
+            drawing.text.len(),
+            space.glyphs.as_mut_ptr(),
+            space.glyphs.len(),
+            space.offsets.as_mut_ptr(),
+            space.offsets.len(),
+            space.down.as_mut_ptr(),
+            space.down.len(),
+            space.right.as_mut_ptr(),
+            space.right.len(),
+            space.rects.as_mut_ptr(),
+            space.rects.len(),
+            starts.as_mut_ptr(),
+            starts.len(),
+            number,
+            out.as_mut_ptr(),
+            out.len(),
+        )
+    }
+}
+
+#[cfg(not(grid_cell))]
+pub fn cell(_: Drawing<'_>, _: Space<'_>, _: &mut [u16], _: usize, _: &mut [u16]) -> CellReply {
+    unreachable!("the commands ask first whether the call is there")
+}
+
+#[cfg(not(grid_lib))]
+pub fn cut(_: Cutting<'_>) -> CutReply {
+    unreachable!("the commands ask first whether the library is linked")
+}
+
+#[cfg(not(grid_table))]
+pub fn table(_: Drawing<'_>, _: Space<'_>, _: MoreSpace<'_>, _: TableOutput<'_>) -> TableReply {
+    unreachable!("the commands ask first whether the call is there")
+}
+
+#[cfg(not(grid_lib))]
+pub fn layout(_: Drawing<'_>, _: Space<'_>, _: Output<'_>) -> LayoutReply {
+    unreachable!("the commands ask first whether the library is linked")
+}
+
+#[cfg(grid_lib)]
+mod calls {
+    #[cfg(grid_cell)]
+    use super::CellReply;
+    #[cfg(grid_table)]
+    use super::TableReply;
+    use super::{CutReply, LayoutReply};
+
+    unsafe extern "C" {
+        /// A slice is a pointer and a length.
+        pub fn grid_layout(
+            lines: usize,
+            bytes: usize,
+            lengths: *const u16,
+            lengths_len: usize,
+            columns: *const u16,
+            columns_len: usize,
+            text: *const u8,
+            text_len: usize,
+            glyphs: *mut u8,
+            glyphs_len: usize,
+            offsets: *mut u16,
+            offsets_len: usize,
+            down: *mut u8,
+            down_len: usize,
+            right: *mut u8,
+            right_len: usize,
+            rects: *mut u8,
+            rects_len: usize,
+            out_columns: *mut u16,
+            out_columns_len: usize,
+            out_rows: *mut u16,
+            out_rows_len: usize,
+            out_cells: *mut u16,
+            out_cells_len: usize,
+            out_ranges: *mut u16,
+            out_ranges_len: usize,
+        ) -> LayoutReply;
+
+        pub fn grid_cell_fragment(
+            text: *const u8,
+            text_len: usize,
+            column: usize,
+            line: usize,
+            table_byte: usize,
+            start: usize,
+            end: usize,
+            left: usize,
+        ) -> CutReply;
+
+        #[cfg(grid_table)]
+        pub fn grid_table(
+            lines: usize,
+            bytes: usize,
+            lengths: *const u16,
+            lengths_len: usize,
+            columns: *const u16,
+            columns_len: usize,
+            text: *const u8,
+            text_len: usize,
+            glyphs: *mut u8,
+            glyphs_len: usize,
+            offsets: *mut u16,
+            offsets_len: usize,
+            down: *mut u8,
+            down_len: usize,
+            right: *mut u8,
+            right_len: usize,
+            rects: *mut u8,
+            rects_len: usize,
+            starts: *mut u16,
+            starts_len: usize,
+            counts: *mut u8,
+            counts_len: usize,
+            out_columns: *mut u16,
+            out_columns_len: usize,
+            out_sections: *mut u8,
+            out_sections_len: usize,
+            out_cells: *mut u16,
+            out_cells_len: usize,
+            out_lengths: *mut u16,
+            out_lengths_len: usize,
+            out_text: *mut u8,
+            out_text_len: usize,
+        ) -> TableReply;
+
+        #[cfg(grid_cell)]
+        pub fn grid_cell(
+            lines: usize,
+            bytes: usize,
+            lengths: *const u16,
+            lengths_len: usize,
+            columns: *const u16,
+            columns_len: usize,
+            text: *const u8,
+            text_len: usize,
+            glyphs: *mut u8,
+            glyphs_len: usize,
+            offsets: *mut u16,
+            offsets_len: usize,
+            down: *mut u8,
+            down_len: usize,
+            right: *mut u8,
+            right_len: usize,
+            rects: *mut u8,
+            rects_len: usize,
+            starts: *mut u16,
+            starts_len: usize,
+            number: usize,
+            out: *mut u16,
+            out_len: usize,
+        ) -> CellReply;
+    }
+}

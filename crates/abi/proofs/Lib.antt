@@ -1,0 +1,4 @@
+pub mod ReplyLaws
+pub mod CutReplyLaws
+pub mod TableReplyLaws
+pub mod CellReplyLaws

@@ -1,0 +1,23 @@
+use Rattle.abi.proofs.TableReplyLaws.{table-reply-accepted, table-reply-refused}
+use borrow.Author.Needs.{needs}
+use Rattle.abi.proofs.tables.table_reply.Statement.{statement}
+use Rattle.abi.proofs.tables.table_reply.Tie as tie
+
+-- src/tables.rt:17:13
+enum-known-answer : tie.Need-enum-known-answer
+enum-known-answer c = search needs
+
+-- src/tables.rt:31:32
+enum-known-answer-2 : tie.Need-enum-known-answer-2
+enum-known-answer-2 c = search needs
+
+-- src/tables.rt:12:1
+returns : tie.Need-returns
+returns c = search (needs, table-reply-accepted)
+
+-- src/tables.rt:12:1
+returns-2 : tie.Need-returns-2
+returns-2 c = search (needs, table-reply-refused)
+
+pub table-reply-spec : {M : Type 1} → statement M
+table-reply-spec = tie.close (tie.spec enum-known-answer enum-known-answer-2 returns returns-2)

@@ -1,0 +1,4 @@
+pub mod Reply
+pub mod CutReply
+pub mod TableReply
+pub mod CellReply

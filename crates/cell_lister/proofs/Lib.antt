@@ -1,0 +1,4 @@
+pub mod TextLaws
+pub mod CellLaws
+pub mod FitLaws
+pub mod ListedLaws

@@ -1,0 +1,21 @@
+-- `lister::print::byte` meets its contract.
+-- Assumes nothing.
+use Rattle.lister.proofs.PutLaws.{put-byte}
+use borrow.Author.Needs.{needs}
+use Rattle.lister.proofs.print.byte.Statement.{statement}
+use Rattle.lister.proofs.print.byte.Tie as tie
+
+slice-write-out : tie.Need-slice-write-out
+slice-write-out c = search needs
+
+add-result : tie.Need-add-result
+add-result c = search needs
+
+same-length : tie.Need-same-length
+same-length c = search needs
+
+returns : tie.Need-returns
+returns c = search (needs, put-byte)
+
+pub byte-spec : {M : Type 1} → statement M
+byte-spec = tie.close (tie.spec slice-write-out add-result same-length returns)

@@ -1,0 +1,217 @@
+// Answers cases on standard input with the table call, a line for a line. The stored answers come from the Rust.
+//
+//     LINES BYTES LENGTHS COLUMNS TEXT SPACES
+//
+// The drawing's sizes, line lengths, line columns and text, and the lengths of the working space and of the output arrays: glyphs,
+// offsets, down, right, rects, starts, counts, columns, sections, cells, lengths, text; `-` for those that the call names and the
+// largest results. Fields are parted by single spaces, numbers of a list by commas; `-` is an empty list. Text is pairs of hexadecimal digits in lower case;
+// `r`, four digits and a pair stand for that byte so many times.
+//
+// An answer is `refused`, number and place; or `accepted`, columns, rows, cells, lines, bytes and all entries of the five arrays.
+use libc::STDOUT_FILENO;
+use replaying::find;
+use replaying::least;
+use replaying::move_down;
+use replaying::number_field;
+use replaying::numbers_field;
+use replaying::print;
+use replaying::print_bytes;
+use replaying::print_entries;
+use replaying::space;
+use replaying::text_field;
+use table::TableAnswer;
+ghost use Prim.Native.Nat.{_≤_};
+ghost use lib.ListN.{length};
+
+fn print_answer(
+    answer: TableAnswer,
+    cols: &[u16],
+    sections: &[u8],
+    cells: &[u16],
+    lengths: &[u16],
+    text: &[u8],
+) {
+    match answer {
+        TableAnswer::Refused { number, place } => {
+            io::write_all(STDOUT_FILENO, b"refused");
+            print(number);
+            print(place);
+        }
+        TableAnswer::Accepted {
+            columns: across,
+            rows: tall,
+            cells: count,
+            lines: kept,
+            bytes: weight,
+        } => {
+            io::write_all(STDOUT_FILENO, b"accepted");
+            print(across);
+            print(tall);
+            print(count);
+            print(kept);
+            print(weight);
+            print_entries(cols, 2 * least(across, 127));
+            print_bytes(sections, tall);
+            print_entries(cells, 5 * least(count, 1024));
+            print_entries(lengths, kept);
+            print_bytes(text, weight);
+        }
+    }
+    io::write_all(STDOUT_FILENO, b"\n");
+}
+
+fn answer_with(
+    lines: usize,
+    bytes: usize,
+    lengths: &[u16],
+    columns: &[u16],
+    text: &[u8],
+    glyphs: &mut [u8],
+    offsets: &mut [u16],
+    down: &mut [u8],
+    right: &mut [u8],
+    rects: &mut [u8],
+    starts: &mut [u16],
+    counts: &mut [u8],
+    cols: &mut [u16],
+    sections: &mut [u8],
+    cells: &mut [u16],
+    out_lengths: &mut [u16],
+    out_text: &mut [u8],
+) {
+    let answer = table::table(
+        lines,
+        bytes,
+        lengths,
+        columns,
+        text,
+        glyphs,
+        offsets,
+        down,
+        right,
+        rects,
+        starts,
+        counts,
+        cols,
+        sections,
+        cells,
+        out_lengths,
+        out_text,
+    );
+    print_answer(answer, cols, sections, cells, out_lengths, out_text);
+}
+
+// Calls with working space and output arrays of these lengths. The output arrays hold the largest results.
+fn answer(
+    lines: usize,
+    bytes: usize,
+    lengths: &[u16],
+    columns: &[u16],
+    text: &[u8],
+    spaces: &[u16],
+) {
+    let mut glyphs = [0u8; 16384];
+    let mut offsets = [0u16; 16384];
+    let mut down = [0u8; 16384];
+    let mut right = [0u8; 16384];
+    let mut rects = [0u8; 4096];
+    let mut starts = [0u16; 128];
+    let mut counts = [0u8; 1024];
+    let mut cols = [0u16; 254];
+    let mut sections = [0u8; 127];
+    let mut cells = [0u16; 5120];
+    let mut out_lengths = [0u16; 16384];
+    let mut out_text = [0u8; 32768];
+    let a = space(spaces, 0, 16384);
+    let b = space(spaces, 1, 16384);
+    let c = space(spaces, 2, 16384);
+    let d = space(spaces, 3, 16384);
+    let e = space(spaces, 4, 4096);
+    let f = space(spaces, 5, 128);
+    let g = space(spaces, 6, 1024);
+    let h = space(spaces, 7, 254);
+    let k = space(spaces, 8, 127);
+    let m = space(spaces, 9, 5120);
+    let n = space(spaces, 10, 16384);
+    let p = space(spaces, 11, 32768);
+    answer_with(
+        lines,
+        bytes,
+        lengths,
+        columns,
+        text,
+        &mut glyphs[0..a],
+        &mut offsets[0..b],
+        &mut down[0..c],
+        &mut right[0..d],
+        &mut rects[0..e],
+        &mut starts[0..f],
+        &mut counts[0..g],
+        &mut cols[0..h],
+        &mut sections[0..k],
+        &mut cells[0..m],
+        &mut out_lengths[0..n],
+        &mut out_text[0..p],
+    );
+}
+
+fn answer_line(line: &[u8]) {
+    let mut lengths = [0u16; 256];
+    let n = numbers_field(line, 2, &mut lengths);
+    let mut columns = [0u16; 256];
+    let m = numbers_field(line, 3, &mut columns);
+    let mut text = [0u8; 40000];
+    let k = text_field(line, 4, &mut text);
+    let mut spaces = [0u16; 12];
+    let s = numbers_field(line, 5, &mut spaces);
+    answer(
+        number_field(line, 0),
+        number_field(line, 1),
+        &lengths[0..n],
+        &columns[0..m],
+        &text[0..k],
+        &spaces[0..s],
+    );
+}
+
+// Answers the lines that have their line feed, and gives the place after them.
+fn answer_lines(input: &[u8]) -> usize
+    ensures { λ r. ⌜ r ≤ length (now (input .entry)) ⌝ }
+{
+    let mut at = 0;
+    while at < input.len() {
+        let end = find(input, at, b'\n');
+        if end >= input.len() {
+            return at;
+        }
+        answer_line(&input[at..end]);
+        at = end + 1;
+    }
+    at
+}
+
+// Answers what a full buffer holds, and gives how many bytes of an unfinished line are left at its start.
+fn answer_some(buffer: &mut [u8], held: usize) -> usize
+    requires { ⌜ held ≤ length (now buffer) ⌝ }
+    ensures { λ r. ⌜ r ≤ length (now (buffer .exit)) ⌝ }
+{
+    let more = io::read_full(libc::STDIN_FILENO, &mut buffer[held..]);
+    let end = held + more;
+    let used = answer_lines(&buffer[0..end]);
+    move_down(buffer, used, end)
+}
+
+// A turn answers up to 65,536 bytes: 64 are enough for all cases.
+fn answer_all(buffer: &mut [u8]) {
+    let mut held = 0;
+    let mut turns: usize = 0;
+    while turns < 64 {
+        held = answer_some(buffer, held);
+        turns += 1;
+    }
+}
+
+fn main() {
+    let mut buffer = io::large_buffer();
+    answer_all(&mut buffer);
+}

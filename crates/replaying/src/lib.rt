@@ -1,0 +1,224 @@
+// What the programs that replay cases have in common: the fields of a case, and printing.
+use libc::STDOUT_FILENO;
+ghost use Prim.Native.Nat.{_≤_, _<_};
+ghost use lib.ListN.{length};
+
+// The first `stop` at or after `from`, or the end.
+pub fn find(s: &[u8], from: usize, stop: u8) -> usize
+    requires { ⌜ from ≤ length (now s) ⌝ }
+    ensures { λ r. ⌜ (from ≤ r) × (r ≤ length (now (s .entry))) ⌝ }
+{
+    let mut i = from;
+    while i < s.len() {
+        if s[i] == stop {
+            return i;
+        }
+        i += 1;
+    }
+    i
+}
+
+fn digit(b: u8) -> u8
+    ensures { λ r. ⌜ r < 16 ⌝ }
+{
+    match b {
+        b'0'..=b'9' => b - b'0',
+        b'a'..=b'f' => b - b'a' + 10,
+        _ => 0,
+    }
+}
+
+fn pair(high: u8, low: u8) -> u8 {
+    digit(high) * 16 + digit(low)
+}
+
+fn wide(b: u8) -> usize
+    ensures { λ r. ⌜ r < 256 ⌝ }
+{
+    b as usize
+}
+
+pub fn entry(x: u16) -> usize {
+    x as usize
+}
+
+// Digits after the eighteenth are left out, so that the number fits.
+fn number(digits: &[u8]) -> usize {
+    let mut value: usize = 0;
+    let mut i = 0;
+    while i < digits.len() {
+        if value > 99_999_999_999_999_999 {
+            return value;
+        }
+        value = value * 10 + wide(digit(digits[i]));
+        i += 1;
+    }
+    value
+}
+
+fn small_number(digits: &[u8]) -> u16 {
+    let n = number(digits);
+    if n < 65536 { n as u16 } else { 65535 }
+}
+
+pub fn least(a: usize, b: usize) -> usize
+    ensures { λ r. ⌜ (r ≤ a) × (r ≤ b) ⌝ }
+{
+    if a < b { a } else { b }
+}
+
+// Puts the numbers of a list at the start of `out`, as many as it has room for, and counts them.
+fn numbers(list: &[u8], out: &mut [u16]) -> usize
+    ensures { λ r. ⌜ r ≤ length (now (out .exit)) ⌝ }
+{
+    let mut n = 0;
+    let mut at = 0;
+    while at < list.len() {
+        if n >= out.len() {
+            return n;
+        }
+        let end = find(list, at, b',');
+        if list[at] == b'-' {
+            return n;
+        }
+        out[n] = small_number(&list[at..end]);
+        n += 1;
+        at = end + 1;
+    }
+    n
+}
+
+// Puts a byte so many times, as often as there is room, and gives the next place.
+fn repeat(b: u8, times: usize, out: &mut [u8], at: usize) -> usize
+    requires { ⌜ at ≤ length (now out) ⌝ }
+    ensures { λ r. ⌜ r ≤ length (now (out .exit)) ⌝ }
+{
+    let end = at + least(times, out.len() - at);
+    let mut i = at;
+    while i < end {
+        out[i] = b;
+        i += 1;
+    }
+    i
+}
+
+// Puts the text at the start of `out`, as much as it has room for, and counts its bytes.
+fn unpack(field: &[u8], out: &mut [u8]) -> usize
+    ensures { λ r. ⌜ r ≤ length (now (out .exit)) ⌝ }
+{
+    let mut n = 0;
+    let mut i = 0;
+    while i + 1 < field.len() {
+        if field[i] != b'r' {
+            n = repeat(pair(field[i], field[i + 1]), 1, out, n);
+            i += 2;
+        } else {
+            if field.len() < i + 7 {
+                return n;
+            }
+            let high = wide(pair(field[i + 1], field[i + 2]));
+            let low = wide(pair(field[i + 3], field[i + 4]));
+            n = repeat(pair(field[i + 5], field[i + 6]), high * 256 + low, out, n);
+            i += 7;
+        }
+    }
+    n
+}
+
+// Where a field of a line starts and ends.
+pub struct Part {
+    pub start: usize,
+    pub end: usize,
+}
+
+// Field k of a line, an empty one at its end where it has fewer.
+fn field(line: &[u8], k: usize) -> Part
+    ensures { λ r. ⌜ (r .start ≤ r .end) × (r .end ≤ length (now (line .entry))) ⌝ }
+{
+    let mut start = 0;
+    let mut i = 0;
+    while i < k {
+        start = least(find(line, start, b' ') + 1, line.len());
+        i += 1;
+    }
+    Part {
+        start,
+        end: find(line, start, b' '),
+    }
+}
+
+pub fn number_field(line: &[u8], k: usize) -> usize {
+    let part = field(line, k);
+    let start = part.start;
+    let end = part.end;
+    number(&line[start..end])
+}
+
+pub fn numbers_field(line: &[u8], k: usize, out: &mut [u16]) -> usize
+    ensures { λ r. ⌜ r ≤ length (now (out .exit)) ⌝ }
+{
+    let part = field(line, k);
+    let start = part.start;
+    let end = part.end;
+    numbers(&line[start..end], out)
+}
+
+pub fn text_field(line: &[u8], k: usize, out: &mut [u8]) -> usize
+    ensures { λ r. ⌜ r ≤ length (now (out .exit)) ⌝ }
+{
+    let part = field(line, k);
+    let start = part.start;
+    let end = part.end;
+    unpack(&line[start..end], out)
+}
+
+pub fn print(n: usize) {
+    io::write_all(STDOUT_FILENO, b" ");
+    io::print_decimal(STDOUT_FILENO, n as u64);
+}
+
+pub fn print_entries(array: &[u16], n: usize) {
+    let mut i = 0;
+    while i < array.len() {
+        if i >= n {
+            return;
+        }
+        print(entry(array[i]));
+        i += 1;
+    }
+}
+
+pub fn print_bytes(array: &[u8], n: usize) {
+    let mut i = 0;
+    while i < array.len() {
+        if i >= n {
+            return;
+        }
+        print(wide(array[i]));
+        i += 1;
+    }
+}
+
+// The length of array i, at most `most`.
+pub fn space(spaces: &[u16], i: usize, most: usize) -> usize
+    ensures { λ r. ⌜ r ≤ most ⌝ }
+{
+    if i < spaces.len() {
+        least(entry(spaces[i]), most)
+    } else {
+        most
+    }
+}
+
+// Moves the bytes from `from` to `end` to the start, and counts them.
+pub fn move_down(buffer: &mut [u8], from: usize, end: usize) -> usize
+    requires { ⌜ (from ≤ end) × (end ≤ length (now buffer)) ⌝ }
+    ensures { λ r. ⌜ r ≤ length (now (buffer .exit)) ⌝ }
+{
+    let mut i = from;
+    while i < end {
+        buffer[i - from] = buffer[i];
+        i += 1;
+    }
+    end - from
+}

@@ -1,0 +1,64 @@
+-- Laws of plain lines: all characters 20 to 7E.
+-- Assumes nothing.
+use Prim.Native.Nat.{ℕ, _+_, _≤_, _<_}
+use mathlib.Core.Path.{_≡_, refl, sym, ap, _∙_}
+use mathlib.Core.Bool.{Bool, true, false, _&&_}
+use mathlib.Core.List.{List, [], _∷_}
+use native.Mathlib.Omega.{arith}
+use lib.ListN.{length, drop, getD, drop-of-length-le}
+use Rattle.seq.proofs.Tests.{both-true}
+use Rattle.seq.specs.Lists.{within}
+use Rattle.seq.proofs.ListsLaws.{within-low, within-high, drop-step}
+use Rattle.text.specs.declared.Decoded.the-variants.{Character}
+use Rattle.text.specs.Utf8.{character, wellFrom, wellFormed, plain}
+use Rattle.text.specs.Characters.{columnsOf, span}
+use Rattle.text.proofs.CharactersLaws.{ascii-one-column, span-other}
+use Rattle.text.proofs.Utf8Laws.{character-ascii}
+
+-- ---- what the code's loop over a line says: so far all are
+and-assoc : (t u v : Bool) → t && (u && v) ≡ (t && u) && v
+and-assoc true u v = refl
+and-assoc false u v = refl
+
+and-true : (t : Bool) → t && true ≡ t
+and-true true = refl
+and-true false = refl
+
+pub plain-next : (s : List ℕ) (i : ℕ) (t u : Bool) → i < length s → u ≡ within 0x20 0x7e (getD s i 0) → plain s ≡ (t && plain (drop i s)) → plain s ≡ ((t && u) && plain (drop (i + 1) s))
+unfolding plain
+plain-next s i t u inside is so-far =
+    so-far ∙ ap (λ (l : List ℕ). t && plain l) (drop-step s i inside) ∙ ap (λ (v : Bool). t && (v && plain (drop (i + 1) s))) (sym is)
+    ∙ and-assoc t u (plain (drop (i + 1) s))
+
+pub plain-ends : (s : List ℕ) (i : ℕ) (t : Bool) → length s ≤ i → plain s ≡ (t && plain (drop i s)) → t ≡ plain s
+unfolding plain
+plain-ends s i t past so-far = sym (so-far ∙ ap (λ (l : List ℕ). t && plain l) (drop-of-length-le s past) ∙ and-true t)
+
+-- ---- such a line is in the set, a byte a character
+first-plain : (b : ℕ) (bs : List ℕ) → within 0x20 0x7e b && plain bs ≡ true → character (b ∷ bs) ≡ Character b 1
+first-plain b bs e =
+    let low-high = both-true (within 0x20 0x7e b) (plain bs) e .0 in
+    character-ascii b bs (within-low 0x20 0x7e b low-high) (within-high 0x20 0x7e b low-high)
+
+pub plain-first : (b : ℕ) (bs : List ℕ) → plain (b ∷ bs) ≡ true → character (b ∷ bs) ≡ Character b 1
+unfolding plain
+plain-first b bs e = first-plain b bs e
+
+pub plain-rest : (b : ℕ) (bs : List ℕ) → plain (b ∷ bs) ≡ true → plain bs ≡ true
+unfolding plain
+plain-rest b bs e = both-true (within 0x20 0x7e b) (plain bs) e .1
+
+pub plain-span : (column b : ℕ) (bs : List ℕ) → plain (b ∷ bs) ≡ true → span column b ≡ 1
+unfolding plain
+plain-span column b bs e =
+    let inside = both-true (within 0x20 0x7e b) (plain bs) e .0 in
+    let low = within-low 0x20 0x7e b inside in
+    span-other column b (λ h. omega arith) ∙ ap columnsOf (ascii-one-column b low (within-high 0x20 0x7e b inside))
+
+plain-from : (s : List ℕ) → plain s ≡ true → wellFrom 0 s ≡ true
+unfolding wellFrom
+plain-from [] e = refl
+plain-from (b ∷ bs) e = rw (plain-first b bs e) (plain-from bs (plain-rest b bs e))
+
+pub plain-well : (s : List ℕ) (t : Bool) → t ≡ plain s → t ≡ true → true ≡ wellFormed s
+plain-well s t is taken = sym (plain-from s (sym is ∙ taken))

@@ -1,4 +1,4 @@
--- Computed examples of the definitions of this crate, at their edges. Expected values are document 01's, or the Rust's for the same input.
+-- Computed examples of the definitions of this crate, at their edges. Expected values are worked out by hand from document 01.
 use mathlib.Core.Path.{_≡_, refl}
 use mathlib.Core.Bool.{true, false}
 use mathlib.Core.List.{List, [], _∷_, _++_, map}

@@ -10,20 +10,18 @@ use lib.ListN.{length, getD}
 use borrow.Author.Tests.{ltb-false}
 use Rattle.seq.specs.Lists.{any, isEmpty}
 use Rattle.seq.proofs.Tests.{or-neither}
-use Rattle.grid.specs.Answer.{accept, refuse, refuseIf, refuseAt}
+use Rattle.grid.specs.Answer.{accept, refuseIf, refuseAt}
 use Rattle.grid.specs.Limits.{maxLines, maxLineBytes, maxBytes, maxWidth, maxOrigin}
 use Rattle.grid.specs.Slots.{trimmedAt}
 use Rattle.grid.specs.Read.{drawingTooLarge, outsideSet, noRule}
-use Rattle.grid.specs.Flat.{FlatDrawing, drawingContradicts, linesFrom, linesOf}
+use Rattle.grid.specs.Flat.{drawingContradicts, linesFrom, linesOf}
 use Rattle.grid.specs.LayoutCall.{slotSpace, rectSpace, spaceShort}
 use Rattle.grid.specs.LayoutParts.{widthAnswer}
 use Rattle.grid.proofs.ReadLaws.{passed-if, passed-at}
 use Rattle.entries.specs.Checks.{Agree, anyOver}
 use Rattle.entries.proofs.CheckLaws.{limits-apart}
 use Rattle.slots.specs.Filling.{Sheet}
-use Rattle.reading.specs.declared.Measured.{Measured}
-use Rattle.reading.specs.declared.Measured.the-variants.{Width, Refused}
-use Rattle.reading.specs.Call.{spaces, drawing, checkedOf}
+use Rattle.reading.specs.Call.{spaces, drawing}
 use Rattle.reading.proofs.CheckedLaws.{agrees}
 
 none-over-limit : (limit : ℕ) (numbers : List ℕ) → anyOver limit numbers ≡ false → (i : ℕ) → getD numbers i 0 ≤ limit
@@ -107,10 +105,3 @@ module _ (glyphs offsets down right rects : List ℕ) (enough : spaceShort (spac
         ltb-false (length right) slotSpace (q .1),
         ltb-false (length rects) rectSpace (p .1),
       )
-
--- ---- what the checks answered
-pub width-refused : (m : Measured) (number place : ℕ) (d : FlatDrawing) → m ≡ Refused number place → checkedOf m ≡ widthAnswer d → refuse number place ≡ widthAnswer d
-width-refused m number place d f e = rw f at e
-
-pub width-accepted : (m : Measured) (width : ℕ) (d : FlatDrawing) → m ≡ Width width → checkedOf m ≡ widthAnswer d → accept width ≡ widthAnswer d
-width-accepted m width d f e = rw f at e

@@ -1,9 +1,9 @@
 // Cutting one line of a cell (mod.rs: cell_fragment).
+use characters::tab_columns;
 use text::ByteAt;
 use text::Column;
-use text::characters::tab_columns;
-use text::trim::trim_end;
-use text::utf8::continues_at;
+use trim::trim_end;
+use utf8::continues_at;
 ghost use Prim.Native.Nat.{_<_};
 ghost use mathlib.Core.Path.{_≡_};
 ghost use Rattle.grid.specs.CutCall.{badRange, cutTooLarge, cutNumbersAnswer, cutText};

@@ -1,6 +1,6 @@
 // Reading's checks up to the slots.
 use crate::Place;
-use text::utf8::well_formed;
+use utf8::well_formed;
 ghost use mathlib.Core.Path.{_≡_};
 ghost use mathlib.Core.Bool.{not};
 ghost use lib.ListN.{length};

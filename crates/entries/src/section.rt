@@ -2,7 +2,7 @@
 use crate::Parts;
 use grid::PLUS;
 use grid::STRIDE;
-use text::rule::segment_end;
+use rule::segment_end;
 ghost use Prim.Native.Nat.{_+_, _-_, _≤_, _<_};
 ghost use mathlib.Core.Path.{_≡_};
 ghost use lib.ListN.{length, take};

@@ -100,21 +100,21 @@ fn print(n: usize) {
 fn answer_trim(hex: &[u8]) {
     let mut bytes = io::buffer();
     let n = unhex(hex, &mut bytes);
-    let kept = text::trim::trim_end(&bytes[..n]);
+    let kept = trim::trim_end(&bytes[..n]);
     print(kept.len());
 }
 
 fn answer_rule(fill: &[u8], hex: &[u8]) {
     let mut bytes = io::buffer();
     let n = unhex(hex, &mut bytes);
-    let is_rule = text::rule::is_rule(&bytes[..n], byte_number(fill));
+    let is_rule = rule::is_rule(&bytes[..n], byte_number(fill));
     print(is_rule as usize);
 }
 
 fn answer_decode(at: &[u8], hex: &[u8]) {
     let mut bytes = io::buffer();
     let n = unhex(hex, &mut bytes);
-    let decoded = text::utf8::decode(&bytes[..n], ByteAt(number(at)));
+    let decoded = utf8::decode(&bytes[..n], ByteAt(number(at)));
     match decoded {
         Decoded::Character { value, size } => {
             io::write_all(STDOUT_FILENO, b"C ");
@@ -129,7 +129,7 @@ fn answer_decode(at: &[u8], hex: &[u8]) {
 }
 
 fn answer_width(value: &[u8]) {
-    let width = text::characters::width(small_number(value));
+    let width = characters::width(small_number(value));
     match width {
         Width::Columns(n) => print(n),
         Width::Outside => {
@@ -139,7 +139,7 @@ fn answer_width(value: &[u8]) {
 }
 
 fn answer_tab(column: &[u8]) {
-    print(text::characters::tab_columns(Column(number(column))));
+    print(characters::tab_columns(Column(number(column))));
 }
 
 // The fields after the letter: the first, and all that follows it.

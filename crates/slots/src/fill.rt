@@ -1,19 +1,19 @@
 // Slots, line by line.
 use crate::Filled;
 use crate::Separators;
+use characters::span_in_set;
 use grid::DASH;
 use grid::OTHER;
 use grid::PIPE;
 use grid::PLUS;
 use grid::STRIDE;
+use rule::is_rule;
 use text::ByteAt;
 use text::Column;
 use text::Decoded;
-use text::characters::span_in_set;
-use text::rule::is_rule;
-use text::trim::trim_end;
-use text::utf8::decode;
-use text::utf8::is_plain;
+use trim::trim_end;
+use utf8::decode;
+use utf8::is_plain;
 ghost use Prim.Native.Nat.{_+_, _≤_, _<_};
 ghost use mathlib.Core.Path.{_≡_};
 ghost use mathlib.Core.Bool.{cond, _&&_};

@@ -1,8 +1,4 @@
 // Characters and their columns, UTF-8, trimming and rule lines (layout.rs: trim_end, is_rule).
-pub mod characters;
-pub mod rule;
-pub mod trim;
-pub mod utf8;
 
 // A place in a line, counted in bytes.
 pub struct ByteAt(pub usize);

@@ -1,30 +1,13 @@
 // The cut lines of one cell.
-use crate::CellReply;
-use table::CellAnswer;
+use replies::CellReply;
+use replies::cells::cell_reply;
 use table::cell;
 ghost use mathlib.Core.Path.{_≡_};
 ghost use lib.ListN.{length};
 ghost use Rattle.grid.specs.TableCall.{cellAnswer, cellAfterwards};
 ghost use Rattle.reading.specs.Call.{spaces, drawing};
 ghost use Rattle.table.specs.Call.{cellAnswerOf};
-ghost use Rattle.abi.specs.CellReply.{cellReplyOf};
-
-fn cell_reply(answer: CellAnswer) -> CellReply
-    ensures { λ r. ⌜ r ≡ cellReplyOf (cellAnswerOf answer) ⌝ }
-{
-    match answer {
-        CellAnswer::Accepted(lines) => CellReply {
-            number: 0,
-            place: 0,
-            lines,
-        },
-        CellAnswer::Refused { number, place } => CellReply {
-            number,
-            place,
-            lines: 0,
-        },
-    }
-}
+ghost use Rattle.replies.specs.CellReply.{cellReplyOf};
 
 // table::cell.
 #[no_mangle]

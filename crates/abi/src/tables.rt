@@ -1,43 +1,12 @@
 // From a drawing to its table.
-use crate::TableReply;
-use table::TableAnswer;
+use replies::TableReply;
+use replies::tables::table_reply;
 use table::table;
 ghost use mathlib.Core.Path.{_≡_};
 ghost use Rattle.grid.specs.TableCall.{tableAnswer, tableAfterwards};
 ghost use Rattle.reading.specs.Call.{spaces, drawing};
 ghost use Rattle.table.specs.Call.{answerOf, space, arrays};
-ghost use Rattle.abi.specs.TableReply.{tableReplyOf};
-
-fn table_reply(answer: TableAnswer) -> TableReply
-    ensures { λ r. ⌜ r ≡ tableReplyOf (answerOf answer) ⌝ }
-{
-    match answer {
-        TableAnswer::Accepted {
-            columns,
-            rows,
-            cells,
-            lines,
-            bytes,
-        } => TableReply {
-            number: 0,
-            place: 0,
-            columns,
-            rows,
-            cells,
-            lines,
-            bytes,
-        },
-        TableAnswer::Refused { number, place } => TableReply {
-            number,
-            place,
-            columns: 0,
-            rows: 0,
-            cells: 0,
-            lines: 0,
-            bytes: 0,
-        },
-    }
-}
+ghost use Rattle.replies.specs.TableReply.{tableReplyOf};
 
 // table::table.
 #[no_mangle]

@@ -1,53 +1,43 @@
-use Rattle.abi.proofs.ReplyLaws.{reply-told}
+-- `abi::grid_layout` meets its contract: the reply to what the call answers.
+-- Assumes nothing.
+use Rattle.replies.proofs.ReplyLaws.{reply-told}
 use borrow.Author.Needs.{needs}
 use Rattle.abi.proofs.grid_layout.Statement.{statement}
 use Rattle.abi.proofs.grid_layout.Tie as tie
 
--- src/lib.rt:74:11
 layout-requires : tie.Need-layout-requires
 layout-requires c κs = search needs
 
--- src/lib.rt:74:5
-reply-requires : tie.Need-reply-requires
-reply-requires c κs = search needs
+layout-reply-requires : tie.Need-layout-reply-requires
+layout-reply-requires c κs = search needs
 
--- src/lib.rt:54:1
 same-length : tie.Need-same-length
 same-length c = search needs
 
--- src/lib.rt:54:1
 same-length-2 : tie.Need-same-length-2
 same-length-2 c = search needs
 
--- src/lib.rt:54:1
 same-length-3 : tie.Need-same-length-3
 same-length-3 c = search needs
 
--- src/lib.rt:54:1
 same-length-4 : tie.Need-same-length-4
 same-length-4 c = search needs
 
--- src/lib.rt:54:1
 same-length-5 : tie.Need-same-length-5
 same-length-5 c = search needs
 
--- src/lib.rt:54:1
 same-length-6 : tie.Need-same-length-6
 same-length-6 c = search needs
 
--- src/lib.rt:54:1
 same-length-7 : tie.Need-same-length-7
 same-length-7 c = search needs
 
--- src/lib.rt:54:1
 same-length-8 : tie.Need-same-length-8
 same-length-8 c = search needs
 
--- src/lib.rt:54:1
 same-length-9 : tie.Need-same-length-9
 same-length-9 c = search needs
 
--- src/lib.rt:54:1
 returns : tie.Need-returns
 returns c = search (needs, reply-told)
 
@@ -56,7 +46,7 @@ grid-layout-spec =
     tie.close
     (tie.spec
     layout-requires
-    reply-requires
+    layout-reply-requires
     same-length
     same-length-2
     same-length-3

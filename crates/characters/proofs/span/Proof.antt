@@ -3,23 +3,18 @@ use Rattle.text.proofs.CharactersLaws.{tab-spans, other-spans}
 use Rattle.characters.proofs.span.Statement.{statement}
 use Rattle.characters.proofs.span.Tie as tie
 
--- src/characters.rt:82:9
 tab-columns-requires : tie.Need-tab-columns-requires
 tab-columns-requires c κs = search needs
 
--- src/characters.rt:82:9
 returns : tie.Need-returns
 returns c = search (needs, tab-spans)
 
--- src/characters.rt:84:21
 width-requires : tie.Need-width-requires
 width-requires c κs = search needs
 
--- src/characters.rt:84:5
 columns-or-zero-requires : tie.Need-columns-or-zero-requires
 columns-or-zero-requires c κs = search needs
 
--- src/characters.rt:78:1
 returns-2 : tie.Need-returns-2
 returns-2 c = search (needs, other-spans)
 

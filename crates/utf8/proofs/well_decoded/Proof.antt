@@ -14,42 +14,33 @@ Inv-loop line at₀ at = (at ≤ length line) × (wellFormed line ≡ wellFrom 0
 abbrev μ-loop : tie.MeasureT-loop
 μ-loop line at₀ at = length line - at
 
--- src/utf8.rt:90:5
 loop-holds : tie.Need-loop-holds Inv-loop μ-loop
 loop-holds c = search needs
 
--- src/utf8.rt:91:53
 decode-requires : tie.Need-decode-requires Inv-loop μ-loop
 decode-requires c κs = search needs
 
--- src/utf8.rt:91:44
 enum-known-size : tie.Need-enum-known-size Inv-loop μ-loop
 enum-known-size c = search needs
 
--- src/utf8.rt:92:13
 enum-told : tie.Need-enum-told Inv-loop μ-loop
 enum-told c = search needs
 
--- src/utf8.rt:92:13
 returns : tie.Need-returns Inv-loop μ-loop
 returns c = search (needs, ill-formed)
 
--- src/utf8.rt:94:9
 add-at : tie.Need-add-at Inv-loop μ-loop
 add-at c = omega (arith, size-fits (c .before .before .before .before .before .before .before .args .line .now) (c .before .before .before .before .before .loop .at) _ (c .before .before .before .decode .ensures) _ _ (c .before .size .given .1))
 
--- src/utf8.rt:90:5
 loop-less : tie.Need-loop-less Inv-loop μ-loop
 loop-less c = omega (arith, size-fits (c .before .before .before .before .before .before .before .args .line .now) (c .before .before .before .before .before .loop .at) _ (c .before .before .before .decode .ensures) _ _ (c .before .size .given .1))
 
--- src/utf8.rt:90:5
 loop-again : tie.Need-loop-again Inv-loop μ-loop
 loop-again c = (
   omega (arith, size-fits (c .before .before .before .before .before .before .before .args .line .now) (c .before .before .before .before .before .loop .at) _ (c .before .before .before .decode .ensures) _ _ (c .before .size .given .1)),
   well-on (c .before .before .before .before .before .before .before .args .line .now) (c .before .before .before .before .before .loop .at) _ (c .before .before .before .decode .ensures) _ _ (c .before .size .given .1) (c .before .before .before .before .before .loop .inv .1),
 )
 
--- src/utf8.rt:86:1
 returns-2 : tie.Need-returns-2 Inv-loop μ-loop
 returns-2 c = search (needs, well-to-the-end)
 

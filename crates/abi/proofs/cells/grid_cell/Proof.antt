@@ -1,45 +1,37 @@
-use Rattle.abi.proofs.CellReplyLaws.{cell-reply-told}
+-- `abi::cells::grid_cell` meets its contract: the reply to what the call answers.
+-- Assumes nothing.
+use Rattle.replies.proofs.CellReplyLaws.{cell-reply-told}
 use borrow.Author.Needs.{needs}
 use Rattle.abi.proofs.cells.grid_cell.Statement.{statement}
 use Rattle.abi.proofs.cells.grid_cell.Tie as tie
 
--- src/cells.rt:49:16
 cell-requires : tie.Need-cell-requires
 cell-requires c κs = search needs
 
--- src/cells.rt:49:5
 cell-reply-requires : tie.Need-cell-reply-requires
 cell-reply-requires c κs = search needs
 
--- src/cells.rt:30:1
 same-length : tie.Need-same-length
 same-length c = search needs
 
--- src/cells.rt:30:1
 same-length-2 : tie.Need-same-length-2
 same-length-2 c = search needs
 
--- src/cells.rt:30:1
 same-length-3 : tie.Need-same-length-3
 same-length-3 c = search needs
 
--- src/cells.rt:30:1
 same-length-4 : tie.Need-same-length-4
 same-length-4 c = search needs
 
--- src/cells.rt:30:1
 same-length-5 : tie.Need-same-length-5
 same-length-5 c = search needs
 
--- src/cells.rt:30:1
 same-length-6 : tie.Need-same-length-6
 same-length-6 c = search needs
 
--- src/cells.rt:30:1
 same-length-7 : tie.Need-same-length-7
 same-length-7 c = search needs
 
--- src/cells.rt:30:1
 returns : tie.Need-returns
 returns c = search (needs, cell-reply-told)
 

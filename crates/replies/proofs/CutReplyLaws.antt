@@ -9,8 +9,8 @@ use Rattle.grid.specs.CutCall.{CutNumbers}
 use Rattle.cut.specs.declared.Cut.{Cut}
 use Rattle.cut.specs.declared.Cut.the-variants.{Accepted, Refused}
 use Rattle.cut.specs.Call.{answerOf}
-use Rattle.abi.specs.declared.CutReply.{CutReply}
-use Rattle.abi.specs.CutReply.{cutReplyOf}
+use Rattle.replies.specs.declared.CutReply.{CutReply}
+use Rattle.replies.specs.CutReply.{cutReplyOf}
 
 pub cut-reply-accepted : (a : Cut) (start end : ByteAt) (line : ℕ) (byte : ByteAt) (column : Column) → a ≡ Accepted start end line byte column → _≡_ {A = CutReply} (record { number = 0; place = 0; start = start .0; end = end .0; line = line; byte = byte .0; column = column .0 }) (cutReplyOf (answerOf a))
 cut-reply-accepted a start end line byte column e = rw e

@@ -7,8 +7,8 @@ use Rattle.grid.specs.Flat.{TableSizes}
 use Rattle.table.specs.declared.TableAnswer.{TableAnswer}
 use Rattle.table.specs.declared.TableAnswer.the-variants.{Accepted, Refused}
 use Rattle.table.specs.Call.{answerOf}
-use Rattle.abi.specs.declared.TableReply.{TableReply}
-use Rattle.abi.specs.TableReply.{tableReplyOf}
+use Rattle.replies.specs.declared.TableReply.{TableReply}
+use Rattle.replies.specs.TableReply.{tableReplyOf}
 
 pub table-reply-accepted : (a : TableAnswer) (columns rows cells lines bytes : ℕ) → a ≡ Accepted columns rows cells lines bytes → _≡_ {A = TableReply} (record { number = 0; place = 0; columns = columns; rows = rows; cells = cells; lines = lines; bytes = bytes }) (tableReplyOf (answerOf a))
 table-reply-accepted a columns rows cells lines bytes e = rw e

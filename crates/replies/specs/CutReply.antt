@@ -4,7 +4,7 @@ use mathlib.Core.List.{List}
 use Rattle.grid.specs.Answer.{Answer, accept, refuse}
 use Rattle.grid.specs.CutCall.{CutNumbers}
 use Rattle.grid.specs.Values.{Line, Range}
-use Rattle.abi.specs.declared.CutReply.{CutReply}
+use Rattle.replies.specs.declared.CutReply.{CutReply}
 
 abbrev pub cutReplyOf : Answer CutNumbers → CutReply
 cutReplyOf (accept c) =

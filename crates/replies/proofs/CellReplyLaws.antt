@@ -6,8 +6,8 @@ use Rattle.grid.specs.Answer.{Answer}
 use Rattle.table.specs.declared.CellAnswer.{CellAnswer}
 use Rattle.table.specs.declared.CellAnswer.the-variants.{Accepted, Refused}
 use Rattle.table.specs.Call.{cellAnswerOf}
-use Rattle.abi.specs.declared.CellReply.{CellReply}
-use Rattle.abi.specs.CellReply.{cellReplyOf}
+use Rattle.replies.specs.declared.CellReply.{CellReply}
+use Rattle.replies.specs.CellReply.{cellReplyOf}
 
 pub cell-reply-accepted : (a : CellAnswer) (lines : ℕ) → a ≡ Accepted lines → _≡_ {A = CellReply} (record { number = 0; place = 0; lines = lines }) (cellReplyOf (cellAnswerOf a))
 cell-reply-accepted a lines e = rw e

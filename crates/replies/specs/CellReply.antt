@@ -1,7 +1,7 @@
 -- The answer of the cell call as a struct.
 use Prim.Native.Nat.{ℕ}
 use Rattle.grid.specs.Answer.{Answer, accept, refuse}
-use Rattle.abi.specs.declared.CellReply.{CellReply}
+use Rattle.replies.specs.declared.CellReply.{CellReply}
 
 abbrev pub cellReplyOf : Answer ℕ → CellReply
 cellReplyOf (accept lines) = record { number = 0; place = 0; lines = lines }

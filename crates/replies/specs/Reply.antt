@@ -1,7 +1,7 @@
 -- An answer as the struct that is handed out: 0 is acceptance, and what an answer does not have is 0.
 use Rattle.grid.specs.Answer.{Answer, accept, refuse}
 use Rattle.grid.specs.LayoutCall.{LayoutSizes}
-use Rattle.abi.specs.declared.LayoutReply.{LayoutReply}
+use Rattle.replies.specs.declared.LayoutReply.{LayoutReply}
 
 abbrev pub replyOf : Answer LayoutSizes → LayoutReply
 replyOf (accept s) =

@@ -1,7 +1,7 @@
 -- The answer of the table call as a struct.
 use Rattle.grid.specs.Answer.{Answer, accept, refuse}
 use Rattle.grid.specs.Flat.{TableSizes}
-use Rattle.abi.specs.declared.TableReply.{TableReply}
+use Rattle.replies.specs.declared.TableReply.{TableReply}
 
 abbrev pub tableReplyOf : Answer TableSizes → TableReply
 tableReplyOf (accept s) =

@@ -7,8 +7,8 @@ use Rattle.grid.specs.LayoutCall.{LayoutSizes}
 use Rattle.layout.specs.declared.LayoutAnswer.{LayoutAnswer}
 use Rattle.layout.specs.declared.LayoutAnswer.the-variants.{Accepted, Refused}
 use Rattle.layout.specs.Call.{answerOf}
-use Rattle.abi.specs.declared.LayoutReply.{LayoutReply}
-use Rattle.abi.specs.Reply.{replyOf}
+use Rattle.replies.specs.declared.LayoutReply.{LayoutReply}
+use Rattle.replies.specs.Reply.{replyOf}
 
 pub reply-accepted : (a : LayoutAnswer) (width columns rows cells ranges : ℕ) → a ≡ Accepted width columns rows cells ranges → _≡_ {A = LayoutReply} (record { number = 0; place = 0; width = width; columns = columns; rows = rows; cells = cells; ranges = ranges }) (replyOf (answerOf a))
 reply-accepted a width columns rows cells ranges e = rw e

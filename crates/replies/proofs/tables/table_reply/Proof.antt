@@ -1,21 +1,19 @@
-use Rattle.abi.proofs.TableReplyLaws.{table-reply-accepted, table-reply-refused}
+-- `replies::tables::table_reply` meets its contract: each case of the answer has its reply.
+-- Assumes nothing.
+use Rattle.replies.proofs.TableReplyLaws.{table-reply-accepted, table-reply-refused}
 use borrow.Author.Needs.{needs}
-use Rattle.abi.proofs.tables.table_reply.Statement.{statement}
-use Rattle.abi.proofs.tables.table_reply.Tie as tie
+use Rattle.replies.proofs.tables.table_reply.Statement.{statement}
+use Rattle.replies.proofs.tables.table_reply.Tie as tie
 
--- src/tables.rt:17:13
 enum-known-answer : tie.Need-enum-known-answer
 enum-known-answer c = search needs
 
--- src/tables.rt:31:32
 enum-known-answer-2 : tie.Need-enum-known-answer-2
 enum-known-answer-2 c = search needs
 
--- src/tables.rt:12:1
 returns : tie.Need-returns
 returns c = search (needs, table-reply-accepted)
 
--- src/tables.rt:12:1
 returns-2 : tie.Need-returns-2
 returns-2 c = search (needs, table-reply-refused)
 

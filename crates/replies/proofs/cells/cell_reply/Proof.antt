@@ -1,21 +1,19 @@
-use Rattle.abi.proofs.CellReplyLaws.{cell-reply-accepted, cell-reply-refused}
+-- `replies::cells::cell_reply` meets its contract: each case of the answer has its reply.
+-- Assumes nothing.
+use Rattle.replies.proofs.CellReplyLaws.{cell-reply-accepted, cell-reply-refused}
 use borrow.Author.Needs.{needs}
-use Rattle.abi.proofs.cells.cell_reply.Statement.{statement}
-use Rattle.abi.proofs.cells.cell_reply.Tie as tie
+use Rattle.replies.proofs.cells.cell_reply.Statement.{statement}
+use Rattle.replies.proofs.cells.cell_reply.Tie as tie
 
--- src/cells.rt:16:30
 enum-known-answer : tie.Need-enum-known-answer
 enum-known-answer c = search needs
 
--- src/cells.rt:21:31
 enum-known-answer-2 : tie.Need-enum-known-answer-2
 enum-known-answer-2 c = search needs
 
--- src/cells.rt:12:1
 returns : tie.Need-returns
 returns c = search (needs, cell-reply-accepted)
 
--- src/cells.rt:12:1
 returns-2 : tie.Need-returns-2
 returns-2 c = search (needs, cell-reply-refused)
 

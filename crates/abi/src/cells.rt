@@ -6,7 +6,6 @@ ghost use mathlib.Core.Path.{_≡_};
 ghost use lib.ListN.{length};
 ghost use Rattle.grid.specs.TableCall.{cellAnswer, cellAfterwards};
 ghost use Rattle.reading.specs.Call.{spaces, drawing};
-ghost use Rattle.table.specs.Call.{cellAnswerOf};
 ghost use Rattle.replies.specs.CellReply.{cellReplyOf};
 
 // table::cell.

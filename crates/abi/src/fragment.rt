@@ -6,7 +6,6 @@ use text::ByteAt;
 use text::Column;
 ghost use mathlib.Core.Path.{_≡_};
 ghost use Rattle.grid.specs.CutCall.{cutNumbersAnswer};
-ghost use Rattle.cut.specs.Call.{answerOf};
 ghost use Rattle.replies.specs.CutReply.{cutReplyOf, lineGiven, rangeGiven};
 
 // cut::cell_fragment.

@@ -9,7 +9,7 @@ use replies::layouts::layout_reply;
 ghost use mathlib.Core.Path.{_≡_};
 ghost use Rattle.grid.specs.LayoutCall.{layoutAnswer, layoutAfterwards};
 ghost use Rattle.reading.specs.Call.{spaces, drawing};
-ghost use Rattle.layout.specs.Call.{answerOf, arrays};
+ghost use Rattle.layout.specs.Call.{arrays};
 ghost use Rattle.replies.specs.Reply.{replyOf};
 
 // layout::layout.

@@ -5,7 +5,7 @@ use table::table;
 ghost use mathlib.Core.Path.{_≡_};
 ghost use Rattle.grid.specs.TableCall.{tableAnswer, tableAfterwards};
 ghost use Rattle.reading.specs.Call.{spaces, drawing};
-ghost use Rattle.table.specs.Call.{answerOf, space, arrays};
+ghost use Rattle.table.specs.Call.{space, arrays};
 ghost use Rattle.replies.specs.TableReply.{tableReplyOf};
 
 // table::table.

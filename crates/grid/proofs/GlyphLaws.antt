@@ -1,6 +1,6 @@
 -- Tracing looks at a grid's width, height and glyphs, and at nothing else.
 -- Assumes nothing.
-use Prim.Native.Nat.{ℕ, zero, suc, _-_}
+use Prim.Native.Nat.{ℕ, zero, suc}
 use mathlib.Core.Path.{_≡_}
 use mathlib.Core.List.{List}
 use Rattle.grid.specs.Values.{Rect}

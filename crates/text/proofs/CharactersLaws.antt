@@ -80,13 +80,6 @@ pub ascii-in-set : (c : ℕ) → 0x20 ≤ c → c ≤ 0x7e → inSet c ≡ true
 unfolding inSet
 ascii-in-set c low high = rw (ne-eqb c tab (λ e. omega arith), ascii-one-column c low high)
 
-pub known-width : (c : ℕ) → inSet c ≡ true → (c ≡ tab → ⊥) → widthOf c ≡ Columns (columnsOf (widthOf c))
-unfolding inSet
-known-width c e h = go (widthOf c) (rw (ne-eqb c tab h) at e) where
-  go : (w : Width) → isColumns w ≡ true → w ≡ Columns (columnsOf w)
-  go (Columns n) e = refl
-  go Outside e = absurd (true-not-false (sym e))
-
 -- ---- the ranges stand in order, so a character's size says which to look at
 one-above : (c : ℕ) → 0x180 ≤ c → takesOne c ≡ false
 one-above c h = rw (within-above 0x20 0x7e c (omega arith), within-above 0xa1 0xac c (omega arith), within-above 0xae 0x17f c (omega arith))

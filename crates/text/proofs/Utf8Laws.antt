@@ -175,9 +175,6 @@ module _ (s : List ℕ) (v k : ℕ) (e : character s ≡ Character v k) where
   pub character-some-byte : 1 ≤ k
   character-some-byte = ⊎-elim (λ h. omega arith) (⊎-elim (λ h. omega arith) (λ h. omega arith)) (of-bytes .last-byte)
 
-  pub character-three-bytes-at-most : k ≤ 3
-  character-three-bytes-at-most = ⊎-elim (λ h. omega arith) (⊎-elim (λ h. omega arith) (λ h. omega arith)) (of-bytes .last-byte)
-
   pub character-fits : k ≤ length s
   character-fits =
       ⊎-elim

@@ -1,8 +1,8 @@
 // Reading a drawing up to its traced rectangles, in the order of the checks (layout.rs: layout).
-use entries::Place;
-use entries::check::contradicts;
-use entries::check::first_outside;
-use entries::check::too_large;
+use checks::Place;
+use checks::contradicts;
+use checks::first_outside;
+use checks::too_large;
 use reach::reach_down;
 use reach::reach_right;
 use slots::Separators;

@@ -10,7 +10,7 @@ use slots::fill::fill;
 use text::rule::is_rule;
 use text::trim::trim_end;
 use trace::Traced;
-use trace::tracing::trace;
+use trace::trace;
 ghost use Prim.Native.Nat.{_-_, _≤_, _<_};
 ghost use mathlib.Core.Path.{_≡_};
 ghost use mathlib.Core.List.{[]};

@@ -1,15 +1,5 @@
-// The parts of the layout call: its checks, the column and row lines, sections, alignments, and
-// what it writes (layout.rs: Grid::layout).
-pub mod check;
-pub mod lines;
-pub mod section;
-pub mod write;
-
-// The first line at fault, or none.
-pub enum Place {
-    At(usize),
-    Nowhere,
-}
+// What a layout's arrays hold: its column and row lines, sections, alignments, cells and ranges, as
+// definitions in specs/; in proofs/, that they are those of the layout.
 
 // The column (row) lines in order, the first count entries of `lines`; and for each column (line)
 // how many of them come before it.

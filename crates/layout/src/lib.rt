@@ -1,17 +1,17 @@
 // The layout call, and what it writes (layout.rs: layout).
+use bounds::col_bounds;
+use bounds::row_bounds;
+use cell_entries::count_ranges;
+use cell_entries::write_cells;
+use cell_entries::write_ranges;
 use entries::Bounds;
 use entries::Parts;
-use entries::lines::col_bounds;
-use entries::lines::row_bounds;
-use entries::section::find_parts;
-use entries::write::count_ranges;
-use entries::write::write_cells;
-use entries::write::write_columns;
-use entries::write::write_ranges;
-use entries::write::write_rows;
+use line_entries::write_columns;
+use line_entries::write_rows;
 use reading::Outcome;
 use reading::read;
 use reading::trimmed_line;
+use sections::find_parts;
 ghost use Prim.Native.Nat.{ℕ, _*_, _-_, _≤_, _<_};
 ghost use mathlib.Core.Path.{_≡_};
 ghost use mathlib.Core.List.{List·Memᴰ};

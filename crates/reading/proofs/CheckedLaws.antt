@@ -21,9 +21,9 @@ use Rattle.grid.specs.Slots.{trimmedAt}
 use Rattle.grid.specs.Read.{drawingTooLarge, outsideSet, noRule}
 use Rattle.grid.specs.Flat.{drawingContradicts, splitText, linesWith, linesFrom, linesOf}
 use Rattle.grid.specs.LayoutParts.{widthAnswer}
-use Rattle.entries.specs.Checks.{Agree, placeOf}
-use Rattle.entries.specs.declared.Place.{Place}
-use Rattle.entries.specs.declared.Place.the-variants.{At, Nowhere}
+use Rattle.checks.specs.Checks.{Agree, placeOf}
+use Rattle.checks.specs.declared.Place.{Place}
+use Rattle.checks.specs.declared.Place.the-variants.{At, Nowhere}
 use Rattle.reading.specs.Call.{drawing}
 
 -- ---- a line of a text back to back

@@ -1,16 +1,16 @@
 // Reading a drawing up to its traced rectangles, in the order of the checks (layout.rs: layout).
-use entries::Place;
-use entries::check::contradicts;
-use entries::check::first_outside;
-use entries::check::too_large;
-use rule::is_rule;
+use checks::Place;
+use checks::contradicts;
+use checks::first_outside;
+use checks::too_large;
+use reach::reach_down;
+use reach::reach_right;
 use slots::Separators;
 use slots::fill::fill;
-use slots::reach::reach_down;
-use slots::reach::reach_right;
-use trace::Traced;
-use trace::tracing::trace;
+use rule::is_rule;
 use trim::trim_end;
+use trace::Traced;
+use trace::trace;
 ghost use Prim.Native.Nat.{_-_, _≤_, _<_};
 ghost use mathlib.Core.Path.{_≡_};
 ghost use mathlib.Core.List.{[]};

@@ -1,7 +1,2 @@
-pub mod RunLaws
-pub mod ReachLaws
-pub mod ReplaceLaws
-pub mod GlyphLaws
-pub mod LineLaws
+pub mod NextLaws
 pub mod SheetLaws
-pub mod PlainLaws

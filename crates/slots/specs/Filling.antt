@@ -2,34 +2,19 @@
 use Prim.Native.Nat.{ℕ, _+_, _*_, _≤_, _<_}
 use mathlib.Core.Path.{_≡_}
 use mathlib.Core.Bool.{Bool, true, false, _&&_, _||_, cond}
-use mathlib.Core.List.{List, [], _∷_, _++_, map}
+use mathlib.Core.List.{List, [], _∷_, _++_}
 use mathlib.Core.Option.{none, some}
-use lib.ListN.{length, take, drop, getD}
+use lib.ListN.{length, take, getD}
 use lib.Dec.{eqb, ltb}
 use Rattle.seq.specs.Lists.{sum}
 use Rattle.text.specs.Rule.{isRule}
 use Rattle.text.specs.Trim.{trimEnd}
-use Rattle.grid.specs.Slots.{Slot, Grid, equals, glyphOf, lineSlots}
+use Rattle.grid.specs.Slots.{Grid, equals, lineSlots}
 use Rattle.grid.specs.Read.{wrongWidth}
-use Rattle.grid.specs.Arrays.{glyphCode, glyphCodes, slotBytes, Holds}
+use Rattle.grid.specs.Arrays.{Holds}
+use Rattle.line_slots.specs.Line.{LineFilled}
 use Rattle.slots.specs.declared.Separators.{Separators}
 use Rattle.slots.specs.declared.Filled.{Filled}
-
--- an array with n entries from `at` on replaced
-abbrev pub replaced : List ℕ → ℕ → List ℕ → List ℕ
-replaced array at entries = take at array ++ entries ++ drop (at + length entries) array
-
--- the glyphs of a line whose bytes are its characters
-abbrev pub byteCodes : Bool → List ℕ → List ℕ
-byteCodes rule line = map (λ (b : ℕ). glyphCode (glyphOf rule b)) line
-
--- one line's slots
-pub record LineFilled (slots : List Slot) (at width : ℕ) (glyphs offsets glyphs′ offsets′ : List ℕ) (full : Bool) : Type 0 where
-  pub glyphsKept : length glyphs′ ≡ length glyphs
-  pub offsetsKept : length offsets′ ≡ length offsets
-  pub answer : full ≡ eqb (length slots) width
-  pub glyphsHold : full ≡ true → glyphs′ ≡ replaced glyphs at (glyphCodes slots)
-  pub offsetsHold : full ≡ true → offsets′ ≡ replaced offsets at (slotBytes slots)
 
 -- arrays that agree, within the limits
 pub record Sheet (lengths columns text : List ℕ) : Type 0 where

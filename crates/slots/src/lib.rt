@@ -1,6 +1,5 @@
-// The slots of a drawing as arrays, and how far borders reach from each (layout.rs: Grid::new).
+// The slots of a drawing as arrays, and its part separators (layout.rs: Grid::new).
 pub mod fill;
-pub mod reach;
 
 // The part separators: the first count entries are their lines.
 pub struct Separators {

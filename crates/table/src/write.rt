@@ -1,10 +1,10 @@
 // What the table call writes: sections, cells, and the lines of all cells; and what the cell call writes.
 use crate::pieces::cut_line;
 use crate::pieces::piece_at;
+use cell_entries::write_cell;
 use entries::Bounds;
 use entries::Parts;
-use entries::section::section;
-use entries::write::write_cell;
+use sections::section;
 ghost use Prim.Native.Nat.{ℕ, _+_, _*_, _-_, _≤_, _<_};
 ghost use mathlib.Core.Path.{_≡_};
 ghost use mathlib.Core.List.{_++_, map, List·Memᴰ};

@@ -1,3 +1,1 @@
-pub mod SearchLaws
-pub mod SkyLaws
-pub mod TracingLaws
+mod TracingLaws

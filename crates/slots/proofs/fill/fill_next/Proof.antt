@@ -1,7 +1,7 @@
 -- `slots::fill::fill_next` meets its contract: from its four calls.
 -- Assumes nothing.
 use borrow.Author.Needs.{needs}
-use Rattle.slots.proofs.LineLaws.{trimmed-short, next-filled}
+use Rattle.slots.proofs.NextLaws.{trimmed-short, next-filled}
 use Rattle.slots.proofs.fill.fill_next.Statement.{statement}
 use Rattle.slots.proofs.fill.fill_next.Tie as tie
 

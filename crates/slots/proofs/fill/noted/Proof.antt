@@ -1,7 +1,7 @@
 -- `slots::fill::noted` meets its contract: by the test's two outcomes.
 -- Assumes nothing.
 use borrow.Author.Needs.{needs}
-use Rattle.slots.proofs.ReplaceLaws.{noted-more, noted-none}
+use Rattle.slots.proofs.NextLaws.{noted-more, noted-none}
 use Rattle.slots.proofs.fill.noted.Statement.{statement}
 use Rattle.slots.proofs.fill.noted.Tie as tie
 

@@ -1,0 +1,2 @@
+mod CellEntryLaws
+mod RangesLaws

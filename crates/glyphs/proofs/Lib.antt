@@ -1,0 +1,3 @@
+pub mod ReplaceLaws
+pub mod GlyphLaws
+pub mod PlainLaws

@@ -1,0 +1,114 @@
+-- `line_slots::fill_decoded` meets its contract: the invariant: the characters before byte are written, in n slots.
+-- Assumes nothing.
+use Prim.Native.Nat.{_-_}
+use borrow.Author.Needs.{needs}
+use lib.ListN.{length}
+use Rattle.text.proofs.Utf8Laws.{known-in-set}
+use Rattle.line_slots.proofs.LineLaws.{LineSoFar, line-starts, line-done, line-refused, line-over, line-next, columns-fit, bytes-fit, bytes-left}
+use Rattle.line_slots.proofs.fill_decoded.Statement.{statement}
+use Rattle.line_slots.proofs.fill_decoded.Tie as tie
+
+abbrev Inv-loop : tie.InvT-loop
+Inv-loop line rule at width glyphs₀ offsets₀ first byte₀ n₀ glyphs offsets byte n = LineSoFar line rule first at width glyphs₀ offsets₀ glyphs offsets byte n
+
+abbrev μ-loop : tie.MeasureT-loop
+μ-loop line rule at width glyphs₀ offsets₀ first byte₀ n₀ glyphs offsets byte n = length line - byte
+
+loop-holds : tie.Need-loop-holds Inv-loop μ-loop
+loop-holds c = search (needs, line-starts)
+
+decode-requires : tie.Need-decode-requires Inv-loop μ-loop
+decode-requires c κs = search needs
+
+enum-known-value : tie.Need-enum-known-value Inv-loop μ-loop
+enum-known-value c = search needs
+
+enum-told : tie.Need-enum-told Inv-loop μ-loop
+enum-told c = search needs
+
+same-length : tie.Need-same-length Inv-loop μ-loop
+same-length c = search needs
+
+same-length-2 : tie.Need-same-length-2 Inv-loop μ-loop
+same-length-2 c = search needs
+
+returns : tie.Need-returns Inv-loop μ-loop
+returns c = search (needs, line-refused)
+
+add-if1 : tie.Need-add-if1 Inv-loop μ-loop
+add-if1 c = search needs
+
+span-in-set-requires : tie.Need-span-in-set-requires Inv-loop μ-loop
+span-in-set-requires c κs = search (needs, known-in-set)
+
+add-if1-2 : tie.Need-add-if1-2 Inv-loop μ-loop
+add-if1-2 c = search (needs, columns-fit)
+
+same-length-3 : tie.Need-same-length-3 Inv-loop μ-loop
+same-length-3 c = search needs
+
+same-length-4 : tie.Need-same-length-4 Inv-loop μ-loop
+same-length-4 c = search needs
+
+returns-2 : tie.Need-returns-2 Inv-loop μ-loop
+returns-2 c = search (needs, line-over)
+
+add-put-slots : tie.Need-add-put-slots Inv-loop μ-loop
+add-put-slots c = search needs
+
+cast-put-slots : tie.Need-cast-put-slots Inv-loop μ-loop
+cast-put-slots c = search needs
+
+put-slots-requires : tie.Need-put-slots-requires Inv-loop μ-loop
+put-slots-requires c κs = search needs
+
+add-byte : tie.Need-add-byte Inv-loop μ-loop
+add-byte c = search (needs, bytes-fit)
+
+add-n : tie.Need-add-n Inv-loop μ-loop
+add-n c = search needs
+
+loop-less : tie.Need-loop-less Inv-loop μ-loop
+loop-less c = search (needs, bytes-left)
+
+loop-again : tie.Need-loop-again Inv-loop μ-loop
+loop-again c = search (needs, line-next)
+
+same-length-5 : tie.Need-same-length-5 Inv-loop μ-loop
+same-length-5 c = search needs
+
+same-length-6 : tie.Need-same-length-6 Inv-loop μ-loop
+same-length-6 c = search needs
+
+returns-3 : tie.Need-returns-3 Inv-loop μ-loop
+returns-3 c = search (needs, line-done)
+
+pub fill-decoded-spec : {M : Type 1} → statement M
+fill-decoded-spec =
+    tie.close
+    (tie.spec
+    Inv-loop
+    μ-loop
+    loop-holds
+    decode-requires
+    enum-known-value
+    enum-told
+    same-length
+    same-length-2
+    returns
+    add-if1
+    span-in-set-requires
+    add-if1-2
+    same-length-3
+    same-length-4
+    returns-2
+    add-put-slots
+    cast-put-slots
+    put-slots-requires
+    add-byte
+    add-n
+    loop-less
+    loop-again
+    same-length-5
+    same-length-6
+    returns-3)

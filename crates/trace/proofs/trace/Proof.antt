@@ -1,0 +1,110 @@
+-- The invariant: the rectangles written, and then tracing from the skyline that they leave, make the whole trace.
+use Prim.Native.Nat.{_-_, _<_}
+use mathlib.Core.Path.{_≡_}
+use borrow.Author.Needs.{needs}
+use lib.ListN.{length}
+use Rattle.trace.proofs.TracingLaws.{Tracing, small-grid, tall-enough, wide-enough, tracing-starts, none-stops, full-stops, tracing-ends, tracing-on, put-asked, raised-asked, corner-asked}
+use Rattle.trace.proofs.trace.Statement.{statement}
+use Rattle.trace.proofs.trace.Tie as tie
+
+abbrev Inv-loop : tie.InvT-loop
+Inv-loop glyphs down right height width rects₀ sky₀ corner₀ n₀ rects sky corner n =
+    (length rects ≡ length rects₀) × (1 < height) × Tracing height width glyphs rects sky corner n
+
+abbrev μ-loop : tie.MeasureT-loop
+μ-loop glyphs down right height width rects₀ sky₀ corner₀ n₀ rects sky corner n = 1024 - n
+
+returns : tie.Need-returns Inv-loop μ-loop
+returns c = search (needs, small-grid)
+
+new-requires : tie.Need-new-requires Inv-loop μ-loop
+new-requires c κs = search (needs, wide-enough)
+
+loop-holds : tie.Need-loop-holds Inv-loop μ-loop
+loop-holds c = (search needs, search (needs, tall-enough), search (needs, tracing-starts))
+
+sub-if2 : tie.Need-sub-if2 Inv-loop μ-loop
+sub-if2 c = search needs
+
+next-rect-requires : tie.Need-next-rect-requires Inv-loop μ-loop
+next-rect-requires c κs = search needs
+
+enum-known-bottom : tie.Need-enum-known-bottom Inv-loop μ-loop
+enum-known-bottom c = search needs
+
+enum-told : tie.Need-enum-told Inv-loop μ-loop
+enum-told c = search needs
+
+same-length : tie.Need-same-length Inv-loop μ-loop
+same-length c = search needs
+
+returns-2 : tie.Need-returns-2 Inv-loop μ-loop
+returns-2 c = (search needs, (search (needs, none-stops), search needs))
+
+same-length-2 : tie.Need-same-length-2 Inv-loop μ-loop
+same-length-2 c = search needs
+
+returns-3 : tie.Need-returns-3 Inv-loop μ-loop
+returns-3 c = (search needs, (search (needs, full-stops), search needs))
+
+put-rect-requires : tie.Need-put-rect-requires Inv-loop μ-loop
+put-rect-requires c κs =
+    let found = c .before .before .before in
+    let asked = found .before .before in
+    let turn = asked .before .before .before in
+    put-asked (turn .loop .inv .2) (asked .before .if2 .taken) (asked .next-rect .ensures) (found .bottom .given .1) (c .before .if3 .left)
+
+raised-requires : tie.Need-raised-requires Inv-loop μ-loop
+raised-requires c κs =
+    let found = c .before .before .before .before .before .before in
+    let asked = found .before .before in
+    let turn = asked .before .before .before in
+    raised-asked (turn .loop .inv .2) (asked .before .if2 .taken) (asked .next-rect .ensures) (found .bottom .given .1)
+
+next-corner-requires : tie.Need-next-corner-requires Inv-loop μ-loop
+next-corner-requires c κs =
+    let found = c .before .before .before .before .before .before .before in
+    let asked = found .before .before in
+    let turn = asked .before .before .before in
+    corner-asked (turn .loop .inv .2) (asked .before .if2 .taken) (asked .next-rect .ensures) (found .bottom .given .1) (c .raised .ensures)
+
+add-n : tie.Need-add-n Inv-loop μ-loop
+add-n c = search needs
+
+loop-less : tie.Need-loop-less Inv-loop μ-loop
+loop-less c = search needs
+
+loop-again : tie.Need-loop-again Inv-loop μ-loop
+loop-again c = (search needs, search needs, search tracing-on)
+
+same-length-3 : tie.Need-same-length-3 Inv-loop μ-loop
+same-length-3 c = search needs
+
+returns-4 : tie.Need-returns-4 Inv-loop μ-loop
+returns-4 c = (search needs, (search (needs, tracing-ends), search needs))
+
+pub trace-spec : {M : Type 1} → statement M
+trace-spec =
+    tie.close
+    (tie.spec
+    Inv-loop
+    μ-loop
+    returns
+    new-requires
+    loop-holds
+    sub-if2
+    next-rect-requires
+    enum-known-bottom
+    enum-told
+    same-length
+    returns-2
+    same-length-2
+    returns-3
+    put-rect-requires
+    raised-requires
+    next-corner-requires
+    add-n
+    loop-less
+    loop-again
+    same-length-3
+    returns-4)

@@ -1,10 +1,10 @@
 // The slots of one line, written into the arrays of slots.
+use characters::span_in_set;
 use glyphs::fill_plain;
 use glyphs::put_slots;
 use text::ByteAt;
 use text::Column;
 use text::Decoded;
-use characters::span_in_set;
 use utf8::decode;
 use utf8::is_plain;
 ghost use Prim.Native.Nat.{_+_, _≤_};

@@ -30,12 +30,14 @@ use Rattle.grid.proofs.CellLaws.{cell-cuts}
 use Rattle.grid.proofs.EntryLaws.{length-rects, getD-rects}
 use Rattle.grid.proofs.TablePartsLaws.{short-cell, refused-cell, past-the-end, finished-cell}
 use Rattle.entries.proofs.WriteLaws.{noRect}
+use Rattle.pieces.specs.Text.{source, fragmentBetween, Ready}
+use Rattle.cell_cuts.specs.Cuts.{cutsOf}
+use Rattle.cell_cuts.proofs.WriteLaws.{length-cuts, length-entries}
 use Rattle.reading.specs.Call.{drawing, TracedSheet, Reading}
 use Rattle.reading.specs.declared.Outcome.{Outcome}
 use Rattle.reading.proofs.SheetLaws.{cells-room, all-covered}
-use Rattle.table.specs.Text.{source, fragmentBetween, cutsOf, rectIn, Ready, Cutting}
+use Rattle.table.specs.Needs.{rectIn, Cutting}
 use Rattle.table.proofs.FrameLaws.{all-framed, cuts-told}
-use Rattle.table.proofs.CutWriteLaws.{length-cuts, length-entries}
 
 -- ---- from the rectangle on
 module _ (lengths columns text offsets rects starts₀ : List ℕ) (k : ℕ) (t : Cutting lengths columns text offsets rects starts₀ k) where

@@ -27,12 +27,14 @@ use Rattle.entries.specs.Edges.{Collected, rowLinesBelow, columnLinesBelow}
 use Rattle.entries.specs.Writing.{linesHeld, Rising, Numbered, columnEntries}
 use Rattle.entries.specs.declared.Bounds.{Bounds}
 use Rattle.entries.specs.declared.Parts.{Parts}
+use Rattle.pieces.specs.Text.{source, keptLines, allLines, Ready, Framed, CountedBy, Preparable, Prepared}
+use Rattle.pieces.specs.declared.TextSize.{TextSize}
+use Rattle.table_entries.specs.Entries.{sectionEntries, tableEntries}
 use Rattle.reading.specs.Call.{TracedSheet}
 use Rattle.reading.specs.declared.Outcome.{Outcome}
 use Rattle.reading.proofs.CheckedLaws.{trimmed-text}
 use Rattle.reading.proofs.SheetLaws.{some-line, cells-room, PartsFound, head-line, down-some, across-some, downs, acrosses, across-told, down-told, rows-rise, columns-rise, columns-small, all-numbered}
-use Rattle.table.specs.Text.{source, keptLines, allLines, Ready, Framed, CountedBy, sectionEntries, tableEntries, Preparable, Prepared, Writable}
-use Rattle.table.specs.declared.TextSize.{TextSize}
+use Rattle.table.specs.Needs.{Writable}
 use Rattle.table.specs.Call.{arrays}
 use Rattle.table.proofs.FrameLaws.{all-framed}
 use Rattle.table.proofs.TableLaws.{sizes-told, short-told, arrays-told}

@@ -18,10 +18,10 @@ use Rattle.grid.proofs.ByteLaws.{slot-in-line, border-climbs, bytes-rise}
 use Rattle.grid.proofs.CellLaws.{cutAt, cell-lines}
 use Rattle.grid.proofs.HoldsLaws.{held-byte}
 use Rattle.grid.proofs.SlotLaws.{line-at}
+use Rattle.pieces.specs.Text.{source, fragmentBetween, cutBetween, keptLines, Cuttable, Framed}
 use Rattle.reading.specs.Call.{TracedSheet}
 use Rattle.reading.specs.declared.Outcome.{Outcome}
 use Rattle.reading.proofs.SheetLaws.{held, count, tall, across, all-inside, all-laid, all-covered}
-use Rattle.table.specs.Text.{source, fragmentBetween, cutBetween, keptLines, Cuttable, Framed}
 
 module _ (lengths columns text glyphs offsets rects : List ℕ) (o : Outcome) (t : TracedSheet lengths columns text glyphs offsets rects o) where
   abbrev lines : List Line

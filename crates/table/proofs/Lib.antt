@@ -1,11 +1,5 @@
-pub mod PieceLaws
-pub mod MeasureLaws
-pub mod TotalLaws
 pub mod FrameLaws
 pub mod TableLaws
 pub mod FinishLaws
 pub mod CallLaws
-pub mod LineLaws
-pub mod TextWriteLaws
-pub mod CutWriteLaws
 pub mod CellLaws

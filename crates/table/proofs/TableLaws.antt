@@ -20,10 +20,11 @@ use Rattle.grid.proofs.SizeLaws.{columns-count, rows-count}
 use Rattle.entries.specs.Writing.{columnEntries, sectionFrom}
 use Rattle.entries.specs.declared.Parts.{Parts}
 use Rattle.entries.proofs.AgreeLaws.{columns-agree, section-agrees, row-inside}
+use Rattle.pieces.specs.Text.{source, keptLines, allLines}
+use Rattle.table_entries.specs.Entries.{sectionEntries, tableEntry, tableEntries}
 use Rattle.reading.specs.Call.{TracedSheet}
 use Rattle.reading.specs.declared.Outcome.{Outcome}
 use Rattle.reading.proofs.SheetLaws.{tall, all-laid, PartsFound, headed, footed}
-use Rattle.table.specs.Text.{source, keptLines, allLines, sectionEntries, tableEntry, tableEntries}
 use Rattle.table.specs.Call.{arrays}
 use Rattle.table.proofs.FrameLaws.{kept-told}
 

@@ -1,22 +1,19 @@
 // From a drawing to its table, and to the cut lines of one cell (mod.rs: build_grid_table).
-pub mod pieces;
-pub mod write;
-
-use crate::pieces::line_starts;
-use crate::pieces::prepare;
-use crate::write::write_cuts;
-use crate::write::write_sections;
-use crate::write::write_table_cells;
-use crate::write::write_text;
 use bounds::col_bounds;
 use bounds::row_bounds;
+use cell_cuts::write_cuts;
 use entries::Bounds;
 use entries::Parts;
 use line_entries::write_columns;
+use pieces::line_starts;
+use pieces::prepare;
 use reading::Outcome;
 use reading::read;
 use reading::trimmed_line;
 use sections::find_parts;
+use table_entries::write_sections;
+use table_entries::write_table_cells;
+use table_text::write_text;
 ghost use Prim.Native.Nat.{_≤_};
 ghost use mathlib.Core.Path.{_≡_};
 ghost use lib.ListN.{length};
@@ -26,18 +23,14 @@ ghost use Rattle.grid.specs.TableCall.{tableOver, tableAnswer, tableAfterwards,
 ghost use Rattle.grid.specs.TableParts.{tableFrom, tableSizesOf, tableArraysOf, cutsCountOf, cutsArrayOf};
 ghost use Rattle.grid.specs.Arrays.{rectsOf};
 ghost use Rattle.reading.specs.Call.{spaces, drawing, TracedSheet};
-ghost use Rattle.table.specs.Text.{source, rectIn, cutsOf, Writable, Cutting};
+ghost use Rattle.pieces.specs.Text.{source};
+ghost use Rattle.cell_cuts.specs.Cuts.{cutsOf};
+ghost use Rattle.table.specs.Needs.{rectIn, Writable, Cutting};
 ghost use Rattle.table.specs.Call.{answerOf, cellAnswerOf, space, arrays};
 
 const MAX_LINES: usize = 128;
 
 const MAX_CELLS: usize = 1024;
-
-// How many lines, and their bytes.
-pub struct TextSize {
-    pub lines: usize,
-    pub bytes: usize,
-}
 
 // How many columns, rows, cells, lines and bytes were written; or a refusal.
 pub enum TableAnswer {

@@ -1,0 +1,4 @@
+pub mod PieceLaws
+pub mod MeasureLaws
+pub mod LineLaws
+pub mod TotalLaws

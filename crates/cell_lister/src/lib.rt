@@ -1,10 +1,8 @@
 // What the program `cells` prints for what it reads, as one function on bytes.
-pub mod print;
-
-use lister::Split;
-use lister::lines::split;
-use lister::print::refused;
-use print::table_cells;
+use cell_printing::table_cells;
+use input_lines::Split;
+use input_lines::split_lines;
+use printing::refused;
 use table::TableAnswer;
 ghost use Prim.Native.Nat.{_≤_};
 ghost use mathlib.Core.Path.{_≡_};
@@ -12,14 +10,8 @@ ghost use lib.ListN.{length};
 ghost use Rattle.seq.specs.Lists.{sum};
 ghost use Rattle.grid.specs.Flat.{splitText};
 ghost use Rattle.grid.specs.CellListing.{cellListing};
-ghost use Rattle.lister.specs.Printing.{Prints};
-ghost use Rattle.cell_lister.specs.Printing.{linesListed};
-
-// Where the next part goes, and how many bytes of the text were written.
-pub struct Written {
-    pub at: usize,
-    pub bytes: usize,
-}
+ghost use Rattle.printing.specs.Printing.{Prints};
+ghost use Rattle.cell_lister.specs.Listed.{linesListed};
 
 // The cells of a drawing's lines, all at column 0.
 fn list_lines(lengths: &[u16], text: &[u8], out: &mut [u8]) -> usize
@@ -89,7 +81,7 @@ pub fn list_cells(input: &[u8], out: &mut [u8]) -> usize
 {
     let mut lengths = [0u16; 128];
     let mut text = [0u8; 32768];
-    match split(input, &mut lengths, &mut text) {
+    match split_lines(input, &mut lengths, &mut text) {
         Split::TooLarge => refused(2, 0, out),
         Split::Lines { lines, bytes } => list_lines(&lengths[0..lines], &text[0..bytes], out),
     }

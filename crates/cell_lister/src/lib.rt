@@ -11,16 +11,22 @@ ghost use Rattle.seq.specs.Lists.{sum};
 ghost use Rattle.grid.specs.Flat.{splitText};
 ghost use Rattle.grid.specs.CellListing.{cellListing};
 ghost use Rattle.printing.specs.Printing.{Prints};
-ghost use Rattle.cell_lister.specs.Listed.{linesListed};
+ghost use Rattle.cell_lister.specs.Listed.{linesListed, Told};
 
-// The cells of a drawing's lines, all at column 0.
-fn list_lines(lengths: &[u16], text: &[u8], out: &mut [u8]) -> usize
-    requires { ⌜ (length (now lengths) ≤ 128) × (sum (now lengths) ≡ length (now text)) × (196608 ≤ length (now out)) ⌝ }
-    ensures { λ r. ⌜ Prints (now (out .exit)) r (linesListed (splitText (now (lengths .entry)) (now (text .entry)))) ⌝ }
+// The table of a drawing's lines, all at column 0, with working space as the call names it.
+fn lines_table(
+    lengths: &[u16],
+    text: &[u8],
+    cells: &mut [u16],
+    kept_lengths: &mut [u16],
+    kept_text: &mut [u8],
+) -> TableAnswer
+    requires { ⌜ (length (now lengths) ≤ 128) × (sum (now lengths) ≡ length (now text)) ⌝ }
+    requires { ⌜ (length (now cells) ≡ 5120) × (length (now «kept_lengths») ≡ 16384) × (length (now «kept_text») ≡ 32768) ⌝ }
+    ensures { λ r. ⌜ Told (now (lengths .entry)) (now (text .entry)) (now (cells .exit)) (now («kept_lengths» .exit)) (now («kept_text» .exit)) r ⌝ }
 {
     let lines = lengths.len();
     let origins = [0u16; 128];
-    // Working space as the call names it, and output arrays that hold every table.
     let mut glyphs = [0u8; 16384];
     let mut offsets = [0u16; 16384];
     let mut down = [0u8; 16384];
@@ -30,10 +36,7 @@ fn list_lines(lengths: &[u16], text: &[u8], out: &mut [u8]) -> usize
     let mut counts = [0u8; 1024];
     let mut cols = [0u16; 254];
     let mut sections = [0u8; 127];
-    let mut cells = [0u16; 5120];
-    let mut kept_lengths = [0u16; 16384];
-    let mut kept_text = [0u8; 32768];
-    let answer = table::table(
+    table::table(
         lines,
         text.len(),
         lengths,
@@ -48,11 +51,22 @@ fn list_lines(lengths: &[u16], text: &[u8], out: &mut [u8]) -> usize
         &mut counts,
         &mut cols,
         &mut sections,
-        &mut cells,
-        &mut kept_lengths,
-        &mut kept_text,
-    );
-    match answer {
+        cells,
+        kept_lengths,
+        kept_text,
+    )
+}
+
+// The cells of a drawing's lines, all at column 0.
+fn list_lines(lengths: &[u16], text: &[u8], out: &mut [u8]) -> usize
+    requires { ⌜ (length (now lengths) ≤ 128) × (sum (now lengths) ≡ length (now text)) × (196608 ≤ length (now out)) ⌝ }
+    ensures { λ r. ⌜ Prints (now (out .exit)) r (linesListed (splitText (now (lengths .entry)) (now (text .entry)))) ⌝ }
+{
+    // They hold every table.
+    let mut cells = [0u16; 5120];
+    let mut kept_lengths = [0u16; 16384];
+    let mut kept_text = [0u8; 32768];
+    match lines_table(lengths, text, &mut cells, &mut kept_lengths, &mut kept_text) {
         TableAnswer::Refused { number, place } => refused(number, place, out),
         TableAnswer::Accepted {
             columns: across,

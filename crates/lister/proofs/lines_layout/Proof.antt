@@ -48,7 +48,7 @@ returns : tie.Need-returns
 returns c =
     let start = c .before .before .before .before .before .before .before .before .before .before .before .before .before .before .before .before .before .before .before .before .before .before .before .before .before .before .before .before .before in
     let call = c .before .before .before .before .before .before .before .before .before .before .before .before .layout in
-    layout-told (start .args .lengths .now) (start .args .text .now) (start .args .cols .now) (start .args .rows .now) (start .args .cells .now) (start .pre .0 .0) (start .pre .0 .1) (start .pre .1) (call .result) _ _ _ _ (call .ensures .0) (call .ensures .1)
+    layout-told (start .args .lengths .now) (start .args .text .now) (start .args .cols .now) (start .args .rows .now) (start .args .cells .now) (start .pre .0 .0) (start .pre .0 .1) (start .pre .1) (call .result) (call .last .1 .1 .1 .1 .1 .1 .1 .1 .1 .1 .0) (call .last .1 .1 .1 .1 .1 .1 .1 .1 .1 .1 .1 .0) (call .last .1 .1 .1 .1 .1 .1 .1 .1 .1 .1 .1 .1 .0) (call .last .1 .1 .1 .1 .1 .1 .1 .1 .1 .1 .1 .1 .1 .0) (call .ensures .0) (call .ensures .1)
 
 pub lines-layout-spec : {M : Type 1} → statement M
 lines-layout-spec =

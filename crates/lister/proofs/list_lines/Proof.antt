@@ -39,7 +39,7 @@ table-requires : tie.Need-table-requires
 table-requires c κs =
     let start = c .before .before .before .before .before .before .before .before .before .before .before .before .before .before .before .before .before in
     let call = c .before .before .before .before .before .before .before .before .before .before .lines-layout in
-    few-told (start .args .lengths .now) (start .args .text .now) _ _ _ (call .result) _ _ _ _ _ (c .before .before .before .before .before .width .given .1) (call .ensures) _ (start .pre .2)
+    few-told (start .args .lengths .now) (start .args .text .now) (call .last .1 .1 .0) (call .last .1 .1 .1 .0) (call .last .1 .1 .1 .1 .0) (call .result) _ _ _ _ _ (c .before .before .before .before .before .width .given .1) (call .ensures) _ (start .pre .2)
 
 same-length : tie.Need-same-length
 same-length c = search needs

@@ -19,11 +19,11 @@ use Rattle.grid.specs.Read.{readTable}
 use Rattle.grid.specs.Flat.{TableArrays, columnNumbers, tableCellNumbers, sectionCode, tableLines, joinText, tableArrays}
 use Rattle.grid.specs.TableCall.{tableShort}
 use Rattle.grid.specs.TableParts.{tableFrom}
+use Rattle.grid.proofs.LayoutLaws.{columnLines-few, rowLines-few}
 use Rattle.grid.proofs.SizeLaws.{columns-count, rows-count}
 use Rattle.grid.proofs.ReadLaws.{Passed, passed, height-of, read-cover, read-few, read-limited, read-narrow, table-read}
 use Rattle.grid.proofs.CellLaws.{cell-fewer, cell-bytes}
 use Rattle.grid.proofs.CellTexts.{all-lines, all-bytes}
-use Rattle.lister.proofs.SizeLaws.{few-columns, few-rows}
 
 pub record Small (t : Table) : Type 0 where
   pub columns : length (t .columns) ≤ 127
@@ -48,12 +48,12 @@ module _ (lines : List Line) (rs : List Rect) (checks : Passed lines rs) where
 
   columns-small : length (tableFrom lines rs .columns) ≤ 127
   unfolding tableOf layoutOf
-  columns-small = omega (arith, columns-count lines g rs, few-columns g rs, read-narrow checks)
+  columns-small = omega (arith, columns-count lines g rs, columnLines-few g rs, read-narrow checks)
 
   rows-small : length (tableFrom lines rs .sections) ≤ 127
   unfolding tableOf layoutOf
   rows-small =
-      omega (arith, length-map (rowsRead g rs) (λ (row : Row). row .section), rows-count lines g rs, few-rows g rs, height-of lines, read-limited checks .fewLines)
+      omega (arith, length-map (rowsRead g rs) (λ (row : Row). row .section), rows-count lines g rs, rowLines-few g rs, height-of lines, read-limited checks .fewLines)
 
   from-small : Small (tableFrom lines rs)
   from-small =

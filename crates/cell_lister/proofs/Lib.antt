@@ -1,4 +1,2 @@
-pub mod TextLaws
-pub mod CellLaws
 pub mod FitLaws
 pub mod ListedLaws

@@ -1,7 +1,7 @@
 -- From the table call's answer and arrays to the cells that are printed.
 -- Assumes nothing.
 use Prim.Native.Nat.{ℕ, _*_, _-_, _≤_}
-use mathlib.Core.Path.{_≡_, refl, ap, sym, _∙_}
+use mathlib.Core.Path.{_≡_, refl, ap, _∙_}
 use mathlib.Core.Bool.{true, false}
 use mathlib.Core.List.{List, map, flatMap}
 use native.Mathlib.Omega.{arith}
@@ -26,21 +26,54 @@ use Rattle.reading.specs.Call.{spaces}
 use Rattle.table.specs.Call.{answerOf, space, arrays}
 use Rattle.table.specs.declared.TableAnswer.{TableAnswer}
 use Rattle.table.specs.declared.TableAnswer.the-variants.{Accepted, Refused}
-use Rattle.lister.specs.Printing.{refusedLine}
-use Rattle.lister.specs.Splitting.{Splits}
-use Rattle.lister.specs.declared.Split.{Split}
-use Rattle.lister.specs.declared.Split.the-variants.{Lines, TooLarge}
-use Rattle.lister.proofs.AnswerLaws.{split-held}
-use Rattle.lister.proofs.ListedLaws.{zeroes, length-zeroes, space-enough, sheetOf, sheet-agrees, sheet-lines, too-large-refused}
-use Rattle.cell_lister.specs.Printing.{cellsOf, tableListed, linesListed}
+use Rattle.printing.specs.Printing.{Prints, refusedLine}
+use Rattle.printing.proofs.PutLaws.{prints-as}
+use Rattle.input_lines.specs.Splitting.{Splits}
+use Rattle.input_lines.specs.declared.Split.{Split}
+use Rattle.input_lines.specs.declared.Split.the-variants.{Lines, TooLarge}
+use Rattle.input_lines.proofs.SheetLaws.{zeroes, length-zeroes, sheetOf, sheet-agrees, sheet-lines, space-enough, too-large-refused, split-held}
+use Rattle.cell_printing.specs.Printing.{cellsOf, tableListed}
+use Rattle.cell_lister.specs.Listed.{linesListed, Told}
 use Rattle.cell_lister.proofs.FitLaws.{read-small, Rooms, small-fits}
 
--- what an accepting answer tells
-pub record Told (lines : List Line) (out after : TableArrays) (sizes : TableSizes) : Type 0 where
-  pub table : Table
-  pub read : readTable lines ≡ accept table
-  pub sized : sizes ≡ tableSizes table
-  pub written : after ≡ tableOver (tableArrays table) out
+-- The result in an array is its first entries
+
+first-over : (s t : List ℕ) (n : ℕ) → n ≡ length s → take (n - 0) (over s t) ≡ s
+first-over s t n e = take-at s (drop (length s) t) (n - 0) (omega arith)
+
+-- The cells from the arrays of a table that is read
+
+module _ (t : Table) where
+  cells-again : cellsOf (length (t .cells)) (flatMap tableCellNumbers (t .cells)) (map length (tableLines t)) (joinText (tableLines t)) ≡ flatMap cellListed (t .cells)
+  unfolding cellsOf tableOfArrays tableSizes tableArrays
+  cells-again = ap (λ (t : Table). flatMap cellListed (t .cells)) (table-again t)
+
+  arrays-listed : (out after : TableArrays) (across tall count kept weight : ℕ) → after ≡ tableOver (tableArrays t) out
+      → (across ≡ length (t .columns)) × (tall ≡ length (t .sections)) × (count ≡ length (t .cells)) × (kept ≡ length (tableLines t)) × (weight ≡ length (joinText (tableLines t)))
+      → tableListed across tall count (take (5 * count - 0) (after .cells)) (take (kept - 0) (after .lengths)) (take (weight - 0) (after .text)) ≡ cellsListed (accept t)
+  unfolding tableListed tableSizes tableOver tableArrays
+  arrays-listed out after across tall count kept weight written (columns, rows, cells, some, bytes) =
+      let five = length-flatMap 5 tableCellNumbers (t .cells) (λ c. refl) in
+      let each = length-map (tableLines t) length in
+      let placed : take (5 * count - 0) (after .cells) ≡ flatMap tableCellNumbers (t .cells) =
+      ap (λ (a : TableArrays). take (5 * count - 0) (a .cells)) written ∙ first-over (flatMap tableCellNumbers (t .cells)) (out .cells) (5 * count) (omega (arith, five, cells))
+      in
+      let long : take (kept - 0) (after .lengths) ≡ map length (tableLines t) =
+      ap (λ (a : TableArrays). take (kept - 0) (a .lengths)) written ∙ first-over (map length (tableLines t)) (out .lengths) kept (omega (arith, each, some))
+      in
+      let text : take (weight - 0) (after .text) ≡ joinText (tableLines t) =
+      ap (λ (a : TableArrays). take (weight - 0) (a .text)) written ∙ first-over (joinText (tableLines t)) (out .text) weight bytes
+      in
+      rw (placed, long, text, columns, rows, cells, each, cells-again)
+
+-- The answer
+
+-- what an answer tells of the cells of lines, given what reading them answers
+abbrev ToldOf : TableArrays → Answer Table → TableAnswer → Type 0
+ToldOf after a (Accepted across tall count kept weight) =
+    (count ≤ 1024) × (kept ≤ 16384) × (weight ≤ 32768)
+    × (tableListed across tall count (take (5 * count - 0) (after .cells)) (take (kept - 0) (after .lengths)) (take (weight - 0) (after .text)) ≡ cellsListed a)
+ToldOf after a (Refused number place) = refusedLine number place ≡ cellsListed a
 
 module _ (w : LayoutSpace) (s : TableSpace) (d : FlatDrawing) (out : TableArrays) (agree : drawingContradicts d ≡ false) (enough : spaceShort w ≡ false) (wide : tableSpaceShort s ≡ false)
     (rooms : Rooms out) where
@@ -60,99 +93,34 @@ module _ (w : LayoutSpace) (s : TableSpace) (d : FlatDrawing) (out : TableArrays
   unfolding tableAfterwards
   after-all = rw accepts-all
 
-  refused-by : (a : Answer Table) (number place : ℕ) → refuse number place ≡ andThen a (λ t. accept (tableSizes t)) → refusedLine number place ≡ cellsListed a
-  refused-by (refuse m q) number place e =
+  -- the answer and the arrays afterwards, for each of reading's answers
+  told-by : (a : Answer Table) (r : TableAnswer) (after : TableArrays) → readTable (linesOf d) ≡ a → answerOf r ≡ andThen a (λ t. accept (tableSizes t))
+      → after ≡ afterwards a (λ t. tableOver (tableArrays t) out) out → ToldOf after a r
+  unfolding tableSizes
+  told-by (refuse m q) (Refused number place) after h e f =
       let same : number ≡ m = cc in
       let there : place ≡ q = cc in
       rw (same, there)
-  refused-by (accept t) number place e = let z : _≡_ {A = ℕ} 0 1 = cc in absurd (omega arith)
-
-  pub refused-told : (r : TableAnswer) (number place : ℕ) → r ≡ Refused number place → answerOf r ≡ tableAnswer w s d out
-      → refusedLine number place ≡ cellsListed (readTable (linesOf d))
-  refused-told r number place e told = refused-by (readTable (linesOf d)) number place (sym (ap answerOf e) ∙ told ∙ answer-all)
-
-  table-by : (a : Answer Table) (sizes : TableSizes) (after : TableArrays) → readTable (linesOf d) ≡ a → accept sizes ≡ andThen a (λ t. accept (tableSizes t))
-      → after ≡ afterwards a (λ t. tableOver (tableArrays t) out) out → Told (linesOf d) out after sizes
-  table-by (refuse number place) sizes after h e f = let z : _≡_ {A = ℕ} 0 1 = cc in absurd (omega arith)
-  table-by (accept t) sizes after h e f = record { table = t; read = h; sized = cc; written = f }
-
-  pub table-told : (r : TableAnswer) (across tall count kept weight : ℕ) (after : TableArrays) → r ≡ Accepted across tall count kept weight
-      → answerOf r ≡ tableAnswer w s d out → after ≡ tableAfterwards w s d out
-      → Told (linesOf d) out after (record { columns = across; rows = tall; cells = count; lines = kept; bytes = weight })
-  table-told r across tall count kept weight after e told f =
-      table-by (readTable (linesOf d)) (record { columns = across; rows = tall; cells = count; lines = kept; bytes = weight }) after refl
-      (sym (ap answerOf e) ∙ told ∙ answer-all) (f ∙ after-all)
-
--- The result in an array is its first entries
-
-first-over : (s t : List ℕ) (n : ℕ) → n ≡ length s → take (n - 0) (over s t) ≡ s
-first-over s t n e = take-at s (drop (length s) t) (n - 0) (omega arith)
-
-module _ {lines : List Line} {out after : TableArrays} {across tall count kept weight : ℕ}
-    (h : Told lines out after (record { columns = across; rows = tall; cells = count; lines = kept; bytes = weight })) where
-  pub told-small : (count ≤ 1024) × (kept ≤ 16384) × (weight ≤ 32768)
-  unfolding tableSizes
-  told-small =
-      let s = read-small lines (h .table) (h .read) in
-      let sized = h .sized in
-      let a : count ≡ length (h .table .cells) = ap (λ (s : TableSizes). s .cells) sized in
-      let b : kept ≡ length (tableLines (h .table)) = ap (λ (s : TableSizes). s .lines) sized in
-      let x : weight ≡ length (joinText (tableLines (h .table))) = ap (λ (s : TableSizes). s .bytes) sized in
-      (omega (arith, a, s .cells), omega (arith, b, s .lines), omega (arith, x, s .bytes))
-
-  cells-again : cellsOf (length (h .table .cells)) (flatMap tableCellNumbers (h .table .cells)) (map length (tableLines (h .table))) (joinText (tableLines (h .table)))
-      ≡ flatMap cellListed (h .table .cells)
-  unfolding cellsOf tableOfArrays tableSizes tableArrays
-  cells-again = ap (λ (t : Table). flatMap cellListed (t .cells)) (table-again (h .table))
-
-  pub told-listed : tableListed across tall count (take (5 * count - 0) (after .cells)) (take (kept - 0) (after .lengths)) (take (weight - 0) (after .text)) ≡ cellsListed (readTable lines)
-  unfolding tableListed tableSizes tableOver tableArrays
-  told-listed =
-      let t = h .table in
-      let sized = h .sized in
+  told-by (refuse m q) (Accepted across tall count kept weight) after h e f = let z : _≡_ {A = ℕ} 0 1 = cc in absurd (omega arith)
+  told-by (accept t) (Refused number place) after h e f = let z : _≡_ {A = ℕ} 0 1 = cc in absurd (omega arith)
+  told-by (accept t) (Accepted across tall count kept weight) after h e f =
+      let sized : record { columns = across; rows = tall; cells = count; lines = kept; bytes = weight } ≡ tableSizes t = cc in
       let columns : across ≡ length (t .columns) = ap (λ (s : TableSizes). s .columns) sized in
       let rows : tall ≡ length (t .sections) = ap (λ (s : TableSizes). s .rows) sized in
       let cells : count ≡ length (t .cells) = ap (λ (s : TableSizes). s .cells) sized in
       let some : kept ≡ length (tableLines t) = ap (λ (s : TableSizes). s .lines) sized in
       let bytes : weight ≡ length (joinText (tableLines t)) = ap (λ (s : TableSizes). s .bytes) sized in
-      let five = length-flatMap 5 tableCellNumbers (t .cells) (λ c. refl) in
-      let each = length-map (tableLines t) length in
-      let placed : take (5 * count - 0) (after .cells) ≡ flatMap tableCellNumbers (t .cells) =
-      ap (λ (a : TableArrays). take (5 * count - 0) (a .cells)) (h .written) ∙ first-over (flatMap tableCellNumbers (t .cells)) (out .cells) (5 * count) (omega (arith, five, cells))
-      in
-      let long : take (kept - 0) (after .lengths) ≡ map length (tableLines t) =
-      ap (λ (a : TableArrays). take (kept - 0) (a .lengths)) (h .written) ∙ first-over (map length (tableLines t)) (out .lengths) kept (omega (arith, each, some))
-      in
-      let text : take (weight - 0) (after .text) ≡ joinText (tableLines t) =
-      ap (λ (a : TableArrays). take (weight - 0) (a .text)) (h .written) ∙ first-over (joinText (tableLines t)) (out .text) weight bytes
-      in
-      rw (placed, long, text, h .read, columns, rows, cells, each, cells-again)
+      let small = read-small (linesOf d) t h in (
+        omega (arith, cells, small .cells),
+        omega (arith, some, small .lines),
+        omega (arith, bytes, small .bytes),
+        arrays-listed t out after across tall count kept weight f (columns, rows, cells, some, bytes),
+      )
 
--- room for every table is room for a refusal
-pub room-enough : (n : ℕ) → 196608 ≤ n → 131072 ≤ n
-room-enough n h = omega arith
+  pub told : (r : TableAnswer) (after : TableArrays) → answerOf r ≡ tableAnswer w s d out → after ≡ tableAfterwards w s d out → ToldOf after (readTable (linesOf d)) r
+  told r after e f = told-by (readTable (linesOf d)) r after refl (e ∙ answer-all) (f ∙ after-all)
 
-module _ {count kept weight : ℕ} (small : (count ≤ 1024) × (kept ≤ 16384) × (weight ≤ 32768)) where
-  pub five-fits : Fits w64 (5 * count)
-  five-fits = fits-under w64 (5 * count) 5121 (omega (arith, small)) tt
-
-  pub parts-small : (lengths text : List ℕ) → (count ≤ 1024) × (length (take (kept - 0) lengths) ≤ 16384) × (length (take (weight - 0) text) ≤ 32768)
-  parts-small lengths text = (small .0, omega (arith, small, length-take (kept - 0) lengths), omega (arith, small, length-take (weight - 0) text))
-
--- The lines that are handed in, with fresh arrays
-
-abbrev fresh : TableArrays
-fresh = arrays (zeroes 254) (zeroes 127) (zeroes 5120) (zeroes 16384) (zeroes 32768)
-
-fresh-rooms : Rooms fresh
-fresh-rooms =
-    record {
-      columns = length-zeroes 254;
-      sections = length-zeroes 127;
-      cells = length-zeroes 5120;
-      lengths = length-zeroes 16384;
-      text = length-zeroes 32768;
-    }
+-- The lines that are handed in, with fresh working space
 
 abbrev freshSpace : LayoutSpace
 freshSpace = spaces (zeroes 16384) (zeroes 16384) (zeroes 16384) (zeroes 16384) (zeroes 4096)
@@ -173,29 +141,54 @@ fresh-wide =
       le-ltb (length (zeroes 1024)) 1024 (omega (arith, length-zeroes 1024)),
     )
 
-module _ (lengths text : List ℕ) (few : length lengths ≤ 128) (whole : sum lengths ≡ length text) (r : TableAnswer) where
-  abbrev sheet : FlatDrawing
-  sheet = sheetOf lengths text
+module _ (lengths text cells keptLengths keptText : List ℕ) (few : length lengths ≤ 128) (whole : sum lengths ≡ length text) where
+  abbrev lent : TableArrays
+  lent = arrays (zeroes 254) (zeroes 127) cells keptLengths keptText
 
-  pub refused-fresh : (number place : ℕ) → r ≡ Refused number place → answerOf r ≡ tableAnswer freshSpace freshTable sheet fresh
-      → refusedLine number place ≡ linesListed (splitText lengths text)
-  refused-fresh number place e told =
-      refused-told freshSpace freshTable sheet fresh (sheet-agrees lengths text few whole) fresh-enough fresh-wide fresh-rooms r number place e told
-      ∙ ap (λ (ls : List Line). cellsListed (readTable ls)) (sheet-lines lengths text)
+  as-told : (after : TableArrays) (r : TableAnswer) → ToldOf after (readTable (linesOf (sheetOf lengths text))) r
+      → Told lengths text (after .cells) (after .lengths) (after .text) r
+  as-told after (Refused number place) h = h ∙ ap (λ (ls : List Line). cellsListed (readTable ls)) (sheet-lines lengths text)
+  as-told after (Accepted across tall count kept weight) h =
+      (h .0, h .1, h .2, h .3 ∙ ap (λ (ls : List Line). cellsListed (readTable ls)) (sheet-lines lengths text))
 
-  module _ (across tall count kept weight : ℕ) (cols sections cells keptLengths keptText : List ℕ) (e : r ≡ Accepted across tall count kept weight)
-      (told : answerOf r ≡ tableAnswer freshSpace freshTable sheet fresh)
-      (after : arrays cols sections cells keptLengths keptText ≡ tableAfterwards freshSpace freshTable sheet fresh) where
-    all-told : Told (linesOf sheet) fresh (arrays cols sections cells keptLengths keptText) (record { columns = across; rows = tall; cells = count; lines = kept; bytes = weight })
-    all-told =
-        table-told freshSpace freshTable sheet fresh (sheet-agrees lengths text few whole) fresh-enough fresh-wide fresh-rooms r across tall count kept weight
-        (arrays cols sections cells keptLengths keptText) e told after
+  pub table-told : (length cells ≡ 5120) × (length keptLengths ≡ 16384) × (length keptText ≡ 32768)
+      → (r : TableAnswer) (cols′ sections′ cells′ keptLengths′ keptText′ : List ℕ) → answerOf r ≡ tableAnswer freshSpace freshTable (sheetOf lengths text) lent
+      → arrays cols′ sections′ cells′ keptLengths′ keptText′ ≡ tableAfterwards freshSpace freshTable (sheetOf lengths text) lent
+      → Told lengths text cells′ keptLengths′ keptText′ r
+  table-told rooms r cols′ sections′ cells′ keptLengths′ keptText′ e f =
+      as-told (arrays cols′ sections′ cells′ keptLengths′ keptText′) r
+      (told freshSpace freshTable (sheetOf lengths text) lent (sheet-agrees lengths text few whole) fresh-enough fresh-wide
+      (record { columns = length-zeroes 254; sections = length-zeroes 127; cells = rooms .0; lengths = rooms .1; text = rooms .2 }) r
+      (arrays cols′ sections′ cells′ keptLengths′ keptText′) e f)
 
-    pub small-fresh : (count ≤ 1024) × (kept ≤ 16384) × (weight ≤ 32768)
-    small-fresh = told-small all-told
+-- What is printed of an answer
 
-    pub table-fresh : tableListed across tall count (take (5 * count - 0) cells) (take (kept - 0) keptLengths) (take (weight - 0) keptText) ≡ linesListed (splitText lengths text)
-    table-fresh = told-listed all-told ∙ ap (λ (ls : List Line). cellsListed (readTable ls)) (sheet-lines lengths text)
+-- room for every table is room for a refusal
+pub room-enough : (n : ℕ) → 196608 ≤ n → 131072 ≤ n
+room-enough n h = omega arith
+
+module _ (lengths text cells keptLengths keptText : List ℕ) (r : TableAnswer) where
+  module _ (across tall count kept weight : ℕ) (e : r ≡ Accepted across tall count kept weight) (h : Told lengths text cells keptLengths keptText r) where
+    accepted : Told lengths text cells keptLengths keptText (Accepted across tall count kept weight)
+    accepted = rw e at h
+
+    pub few-told : (count ≤ 1024) × (kept ≤ 16384) × (weight ≤ 32768)
+    few-told = (accepted .0, accepted .1, accepted .2)
+
+    pub table-listed : {out : List ℕ} {end : ℕ} → Prints out end (tableListed across tall count (take (5 * count - 0) cells) (take (kept - 0) keptLengths) (take (weight - 0) keptText))
+        → Prints out end (linesListed (splitText lengths text))
+    table-listed p = prints-as p (accepted .3)
+
+  pub refused-listed : (number place : ℕ) → r ≡ Refused number place → Told lengths text cells keptLengths keptText r → {out : List ℕ} {end : ℕ} → Prints out end (refusedLine number place)
+      → Prints out end (linesListed (splitText lengths text))
+  refused-listed number place e h p = prints-as p (rw e at h)
+
+module _ {count kept weight : ℕ} (small : (count ≤ 1024) × (kept ≤ 16384) × (weight ≤ 32768)) where
+  pub five-fits : Fits w64 (5 * count)
+  five-fits = fits-under w64 (5 * count) 5121 (omega (arith, small)) tt
+
+  pub parts-small : (lengths text : List ℕ) → (count ≤ 1024) × (length (take (kept - 0) lengths) ≤ 16384) × (length (take (weight - 0) text) ≤ 32768)
+  parts-small lengths text = (small .0, omega (arith, small, length-take (kept - 0) lengths), omega (arith, small, length-take (weight - 0) text))
 
 -- The input
 

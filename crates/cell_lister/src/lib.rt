@@ -1,10 +1,8 @@
 // What the program `cells` prints for what it reads, as one function on bytes.
-pub mod print;
-
-use lister::Split;
-use lister::lines::split;
-use lister::print::refused;
-use print::table_cells;
+use cell_printing::table_cells;
+use input_lines::Split;
+use input_lines::split_lines;
+use printing::refused;
 use table::TableAnswer;
 ghost use Prim.Native.Nat.{_≤_};
 ghost use mathlib.Core.Path.{_≡_};
@@ -12,23 +10,23 @@ ghost use lib.ListN.{length};
 ghost use Rattle.seq.specs.Lists.{sum};
 ghost use Rattle.grid.specs.Flat.{splitText};
 ghost use Rattle.grid.specs.CellListing.{cellListing};
-ghost use Rattle.lister.specs.Printing.{Prints};
-ghost use Rattle.cell_lister.specs.Printing.{linesListed};
+ghost use Rattle.printing.specs.Printing.{Prints};
+ghost use Rattle.cell_lister.specs.Listed.{linesListed, Told};
 
-// Where the next part goes, and how many bytes of the text were written.
-pub struct Written {
-    pub at: usize,
-    pub bytes: usize,
-}
-
-// The cells of a drawing's lines, all at column 0.
-fn list_lines(lengths: &[u16], text: &[u8], out: &mut [u8]) -> usize
-    requires { ⌜ (length (now lengths) ≤ 128) × (sum (now lengths) ≡ length (now text)) × (196608 ≤ length (now out)) ⌝ }
-    ensures { λ r. ⌜ Prints (now (out .exit)) r (linesListed (splitText (now (lengths .entry)) (now (text .entry)))) ⌝ }
+// The table of a drawing's lines, all at column 0, with working space as the call names it.
+fn lines_table(
+    lengths: &[u16],
+    text: &[u8],
+    cells: &mut [u16],
+    kept_lengths: &mut [u16],
+    kept_text: &mut [u8],
+) -> TableAnswer
+    requires { ⌜ (length (now lengths) ≤ 128) × (sum (now lengths) ≡ length (now text)) ⌝ }
+    requires { ⌜ (length (now cells) ≡ 5120) × (length (now «kept_lengths») ≡ 16384) × (length (now «kept_text») ≡ 32768) ⌝ }
+    ensures { λ r. ⌜ Told (now (lengths .entry)) (now (text .entry)) (now (cells .exit)) (now («kept_lengths» .exit)) (now («kept_text» .exit)) r ⌝ }
 {
     let lines = lengths.len();
     let origins = [0u16; 128];
-    // Working space as the call names it, and output arrays that hold every table.
     let mut glyphs = [0u8; 16384];
     let mut offsets = [0u16; 16384];
     let mut down = [0u8; 16384];
@@ -38,10 +36,7 @@ fn list_lines(lengths: &[u16], text: &[u8], out: &mut [u8]) -> usize
     let mut counts = [0u8; 1024];
     let mut cols = [0u16; 254];
     let mut sections = [0u8; 127];
-    let mut cells = [0u16; 5120];
-    let mut kept_lengths = [0u16; 16384];
-    let mut kept_text = [0u8; 32768];
-    let answer = table::table(
+    table::table(
         lines,
         text.len(),
         lengths,
@@ -56,11 +51,22 @@ fn list_lines(lengths: &[u16], text: &[u8], out: &mut [u8]) -> usize
         &mut counts,
         &mut cols,
         &mut sections,
-        &mut cells,
-        &mut kept_lengths,
-        &mut kept_text,
-    );
-    match answer {
+        cells,
+        kept_lengths,
+        kept_text,
+    )
+}
+
+// The cells of a drawing's lines, all at column 0.
+fn list_lines(lengths: &[u16], text: &[u8], out: &mut [u8]) -> usize
+    requires { ⌜ (length (now lengths) ≤ 128) × (sum (now lengths) ≡ length (now text)) × (196608 ≤ length (now out)) ⌝ }
+    ensures { λ r. ⌜ Prints (now (out .exit)) r (linesListed (splitText (now (lengths .entry)) (now (text .entry)))) ⌝ }
+{
+    // They hold every table.
+    let mut cells = [0u16; 5120];
+    let mut kept_lengths = [0u16; 16384];
+    let mut kept_text = [0u8; 32768];
+    match lines_table(lengths, text, &mut cells, &mut kept_lengths, &mut kept_text) {
         TableAnswer::Refused { number, place } => refused(number, place, out),
         TableAnswer::Accepted {
             columns: across,
@@ -89,7 +95,7 @@ pub fn list_cells(input: &[u8], out: &mut [u8]) -> usize
 {
     let mut lengths = [0u16; 128];
     let mut text = [0u8; 32768];
-    match split(input, &mut lengths, &mut text) {
+    match split_lines(input, &mut lengths, &mut text) {
         Split::TooLarge => refused(2, 0, out),
         Split::Lines { lines, bytes } => list_lines(&lengths[0..lines], &text[0..bytes], out),
     }

@@ -1,43 +1,39 @@
 // What the listing program prints for what it reads, as one function on bytes.
-pub mod lines;
-pub mod print;
-
+use input_lines::Split;
+use input_lines::split_lines;
 use layout::LayoutAnswer;
-use lines::split;
-use print::refused;
-use print::table;
+use layout_printing::table;
+use printing::refused;
 ghost use Prim.Native.Nat.{_≤_};
 ghost use mathlib.Core.Path.{_≡_};
 ghost use lib.ListN.{length};
 ghost use Rattle.seq.specs.Lists.{sum};
 ghost use Rattle.grid.specs.Flat.{splitText};
 ghost use Rattle.grid.specs.Listing.{listing};
-ghost use Rattle.lister.specs.Printing.{Prints, listedLines};
+ghost use Rattle.printing.specs.Printing.{Prints};
+ghost use Rattle.lister.specs.Listed.{listedLines, Told};
 
-// What splitting gives: how many lines and bytes were written, or that a limit on them is passed.
-pub enum Split {
-    Lines { lines: usize, bytes: usize },
-    TooLarge,
-}
-
-// The listing of a drawing's lines, all at column 0.
-fn list_lines(lengths: &[u16], text: &[u8], out: &mut [u8]) -> usize
-    requires { ⌜ (length (now lengths) ≤ 128) × (sum (now lengths) ≡ length (now text)) × (131072 ≤ length (now out)) ⌝ }
-    ensures { λ r. ⌜ Prints (now (out .exit)) r (listedLines (splitText (now (lengths .entry)) (now (text .entry)))) ⌝ }
+// The layout of a drawing's lines, all at column 0, with working space as the call names it.
+fn lines_layout(
+    lengths: &[u16],
+    text: &[u8],
+    cols: &mut [u16],
+    rows: &mut [u16],
+    cells: &mut [u16],
+) -> LayoutAnswer
+    requires { ⌜ (length (now lengths) ≤ 128) × (sum (now lengths) ≡ length (now text)) ⌝ }
+    requires { ⌜ (length (now cols) ≡ 254) × (length (now rows) ≡ 381) × (length (now cells) ≡ 5120) ⌝ }
+    ensures { λ r. ⌜ Told (now (lengths .entry)) (now (text .entry)) (now (cols .exit)) (now (rows .exit)) (now (cells .exit)) r ⌝ }
 {
     let lines = lengths.len();
     let origins = [0u16; 128];
-    // Working space as the call names it, and output arrays that hold every layout.
     let mut glyphs = [0u8; 16384];
     let mut offsets = [0u16; 16384];
     let mut down = [0u8; 16384];
     let mut right = [0u8; 16384];
     let mut rects = [0u8; 4096];
-    let mut cols = [0u16; 254];
-    let mut rows = [0u16; 381];
-    let mut cells = [0u16; 5120];
     let mut ranges = [0u16; 32768];
-    let answer = layout::layout(
+    layout::layout(
         lines,
         text.len(),
         lengths,
@@ -48,12 +44,23 @@ fn list_lines(lengths: &[u16], text: &[u8], out: &mut [u8]) -> usize
         &mut down,
         &mut right,
         &mut rects,
-        &mut cols,
-        &mut rows,
-        &mut cells,
+        cols,
+        rows,
+        cells,
         &mut ranges,
-    );
-    match answer {
+    )
+}
+
+// The listing of a drawing's lines, all at column 0.
+fn list_lines(lengths: &[u16], text: &[u8], out: &mut [u8]) -> usize
+    requires { ⌜ (length (now lengths) ≤ 128) × (sum (now lengths) ≡ length (now text)) × (131072 ≤ length (now out)) ⌝ }
+    ensures { λ r. ⌜ Prints (now (out .exit)) r (listedLines (splitText (now (lengths .entry)) (now (text .entry)))) ⌝ }
+{
+    // They hold every layout.
+    let mut cols = [0u16; 254];
+    let mut rows = [0u16; 381];
+    let mut cells = [0u16; 5120];
+    match lines_layout(lengths, text, &mut cols, &mut rows, &mut cells) {
         LayoutAnswer::Refused { number, place } => refused(number, place, out),
         LayoutAnswer::Accepted {
             width,
@@ -61,7 +68,17 @@ fn list_lines(lengths: &[u16], text: &[u8], out: &mut [u8]) -> usize
             rows: tall,
             cells: count,
             ranges: _,
-        } => table(width, lines, across, tall, count, &cols, &rows, &cells, out),
+        } => table(
+            width,
+            lengths.len(),
+            across,
+            tall,
+            count,
+            &cols,
+            &rows,
+            &cells,
+            out,
+        ),
     }
 }
 
@@ -74,7 +91,7 @@ pub fn list(input: &[u8], out: &mut [u8]) -> usize
 {
     let mut lengths = [0u16; 128];
     let mut text = [0u8; 32768];
-    match split(input, &mut lengths, &mut text) {
+    match split_lines(input, &mut lengths, &mut text) {
         Split::TooLarge => refused(2, 0, out),
         Split::Lines { lines, bytes } => list_lines(&lengths[0..lines], &text[0..bytes], out),
     }

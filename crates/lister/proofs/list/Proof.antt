@@ -1,19 +1,20 @@
 -- `lister::list` meets its contract: each return by what splitting tells.
 -- Assumes nothing.
-use Rattle.lister.proofs.ListedLaws.{prints-as, large-listed, held-listed}
-use Rattle.lister.proofs.AnswerLaws.{lines-fit, bytes-fit, parts-agree}
+use Rattle.printing.proofs.PutLaws.{prints-as}
+use Rattle.input_lines.proofs.SheetLaws.{lines-fit, bytes-fit, parts-agree}
+use Rattle.lister.proofs.ListedLaws.{large-listed, held-listed}
 use borrow.Author.Needs.{needs}
 use Rattle.lister.proofs.list.Statement.{statement}
 use Rattle.lister.proofs.list.Tie as tie
 
-slice-aggregate-split : tie.Need-slice-aggregate-split
-slice-aggregate-split c = search needs
+slice-aggregate-split-lines : tie.Need-slice-aggregate-split-lines
+slice-aggregate-split-lines c = search needs
 
-slice-aggregate-split-2 : tie.Need-slice-aggregate-split-2
-slice-aggregate-split-2 c = search needs
+slice-aggregate-split-lines-2 : tie.Need-slice-aggregate-split-lines-2
+slice-aggregate-split-lines-2 c = search needs
 
-split-requires : tie.Need-split-requires
-split-requires c κs = search needs
+split-lines-requires : tie.Need-split-lines-requires
+split-lines-requires c κs = search needs
 
 enum-told : tie.Need-enum-told
 enum-told c = search needs
@@ -44,7 +45,7 @@ part-list-lines-end-2 c = search (needs, bytes-fit)
 
 list-lines-requires : tie.Need-list-lines-requires
 list-lines-requires c κs =
-    let split = c .before .before .before .before .before .before .before .before .before .before .split in
+    let split = c .before .before .before .before .before .before .before .before .before .before .split-lines in
     let agree = parts-agree _ _ _ _ _ _ (c .before .before .before .before .before .before .lines .given .1) (split .ensures .0) (split .ensures .1) in
     (agree .0, agree .1, search needs)
 
@@ -52,21 +53,21 @@ same-length : tie.Need-same-length
 same-length c = search needs
 
 returns : tie.Need-returns
-returns c = prints-as (c .before .before .refused .ensures) (large-listed _ _ _ _ (c .before .before .before .before .enum-told .given .1) (c .before .before .before .before .before .before .before .before .split .ensures .1))
+returns c = prints-as (c .before .before .refused .ensures) (large-listed _ _ _ _ (c .before .before .before .before .enum-told .given .1) (c .before .before .before .before .before .before .before .before .split-lines .ensures .1))
 
 same-length-2 : tie.Need-same-length-2
 same-length-2 c = search needs
 
 returns-2 : tie.Need-returns-2
-returns-2 c = prints-as (c .before .before .list-lines .ensures) (held-listed _ _ _ _ _ _ (c .before .before .before .before .before .before .before .before .before .lines .given .1) (c .before .before .before .before .before .before .before .before .before .before .before .before .before .split .ensures .1))
+returns-2 c = prints-as (c .before .before .list-lines .ensures) (held-listed _ _ _ _ _ _ (c .before .before .before .before .before .before .before .before .before .lines .given .1) (c .before .before .before .before .before .before .before .before .before .before .before .before .before .split-lines .ensures .1))
 
 pub list-spec : {M : Type 1} → statement M
 list-spec =
     tie.close
     (tie.spec
-    slice-aggregate-split
-    slice-aggregate-split-2
-    split-requires
+    slice-aggregate-split-lines
+    slice-aggregate-split-lines-2
+    split-lines-requires
     enum-told
     refused-requires
     enum-known-lines

@@ -1,59 +1,30 @@
--- `lister::list_lines` meets its contract: each return by what the layout call tells.
+-- `lister::list_lines` meets its contract: each return by what the answer tells.
 -- Assumes nothing.
-use Rattle.lister.proofs.ListedLaws.{prints-as, refused-fresh, table-fresh}
-use Rattle.lister.proofs.AnswerLaws.{few-told}
-use mathlib.Core.Path.{refl}
+use Rattle.lister.proofs.ListedLaws.{few-told, table-listed, refused-listed}
 use borrow.Author.Needs.{needs}
 use Rattle.lister.proofs.list_lines.Statement.{statement}
 use Rattle.lister.proofs.list_lines.Tie as tie
 
-sub-layout : tie.Need-sub-layout
-sub-layout c = search needs
+slice-aggregate-lines-layout : tie.Need-slice-aggregate-lines-layout
+slice-aggregate-lines-layout c = search needs
 
-part-layout-start : tie.Need-part-layout-start
-part-layout-start c = search needs
+slice-aggregate-lines-layout-2 : tie.Need-slice-aggregate-lines-layout-2
+slice-aggregate-lines-layout-2 c = search needs
 
-part-layout-end : tie.Need-part-layout-end
-part-layout-end c = search needs
+slice-aggregate-lines-layout-3 : tie.Need-slice-aggregate-lines-layout-3
+slice-aggregate-lines-layout-3 c = search needs
 
-slice-aggregate-layout : tie.Need-slice-aggregate-layout
-slice-aggregate-layout c = search needs
+lines-layout-requires : tie.Need-lines-layout-requires
+lines-layout-requires c κs = search needs
 
-slice-aggregate-layout-2 : tie.Need-slice-aggregate-layout-2
-slice-aggregate-layout-2 c = search needs
-
-slice-aggregate-layout-3 : tie.Need-slice-aggregate-layout-3
-slice-aggregate-layout-3 c = search needs
-
-slice-aggregate-layout-4 : tie.Need-slice-aggregate-layout-4
-slice-aggregate-layout-4 c = search needs
-
-slice-aggregate-layout-5 : tie.Need-slice-aggregate-layout-5
-slice-aggregate-layout-5 c = search needs
-
-slice-aggregate-layout-6 : tie.Need-slice-aggregate-layout-6
-slice-aggregate-layout-6 c = search needs
-
-slice-aggregate-layout-7 : tie.Need-slice-aggregate-layout-7
-slice-aggregate-layout-7 c = search needs
-
-slice-aggregate-layout-8 : tie.Need-slice-aggregate-layout-8
-slice-aggregate-layout-8 c = search needs
-
-slice-aggregate-layout-9 : tie.Need-slice-aggregate-layout-9
-slice-aggregate-layout-9 c = search needs
-
-layout-requires : tie.Need-layout-requires
-layout-requires c κs = search needs
-
-enum-known-answer : tie.Need-enum-known-answer
-enum-known-answer c = search needs
+enum-known-number : tie.Need-enum-known-number
+enum-known-number c = search needs
 
 refused-requires : tie.Need-refused-requires
 refused-requires c κs = search needs
 
-enum-known-answer-2 : tie.Need-enum-known-answer-2
-enum-known-answer-2 c = search needs
+enum-known-width : tie.Need-enum-known-width
+enum-known-width c = search needs
 
 slice-aggregate-table : tie.Need-slice-aggregate-table
 slice-aggregate-table c = search needs
@@ -66,47 +37,33 @@ slice-aggregate-table-3 c = search needs
 
 table-requires : tie.Need-table-requires
 table-requires c κs =
-    let few = few-told _ _ _ _ _ _ _ _ _ (c .before .before .before .before .before .answer2 .given .1) (c .before .before .before .before .before .before .before .before .before .before .before .before .before .before .before .before .layout .ensures .0) refl refl refl in
-    (few .0, few .1, few .2, c .before .before .before .before .before .before .before .before .before .before .before .before .before .before .before .before .before .before .before .before .before .before .before .before .before .before .before .before .before .before .before .pre .2)
+    let start = c .before .before .before .before .before .before .before .before .before .before .before .before .before .before .before .before .before in
+    let call = c .before .before .before .before .before .before .before .before .before .before .lines-layout in
+    few-told (start .args .lengths .now) (start .args .text .now) (call .last .1 .1 .0) (call .last .1 .1 .1 .0) (call .last .1 .1 .1 .1 .0) (call .result) _ _ _ _ _ (c .before .before .before .before .before .width .given .1) (call .ensures) _ (start .pre .2)
 
 same-length : tie.Need-same-length
 same-length c = search needs
 
 returns : tie.Need-returns
-returns c =
-    let start = c .before .before .before .before .before .before .before .before .before .before .before .before .before .before .before .before .before .before .before .before .before .before .before .before .before .before .before .before .before .before .before in
-    prints-as (c .before .before .refused .ensures)
-    (refused-fresh (start .args .lengths .now) (start .args .text .now) (start .pre .0) (start .pre .1) _ _ _ (c .before .before .before .before .before .answer .given .1) (c .before .before .before .before .before .before .before .before .before .before .before .before .before .before .before .before .layout .ensures .0))
+returns c = search (needs, refused-listed)
 
 same-length-2 : tie.Need-same-length-2
 same-length-2 c = search needs
 
 returns-2 : tie.Need-returns-2
-returns-2 c =
-    let start = c .before .before .before .before .before .before .before .before .before .before .before .before .before .before .before .before .before .before .before .before .before .before .before .before .before .before .before .before .before .before .before .before .before .before in
-    prints-as (c .before .before .table .ensures)
-    (table-fresh (start .args .lengths .now) (start .args .text .now) (start .pre .0) (start .pre .1) _ _ _ _ _ _ _ _ _ _ (c .before .before .before .before .before .before .before .before .answer2 .given .1) (c .before .before .before .before .before .before .before .before .before .before .before .before .before .before .before .before .before .before .before .layout .ensures .0) (c .before .before .before .before .before .before .before .before .before .before .before .before .before .before .before .before .before .before .before .layout .ensures .1))
+returns-2 c = search (needs, table-listed)
 
 pub list-lines-spec : {M : Type 1} → statement M
 list-lines-spec =
     tie.close
     (tie.spec
-    sub-layout
-    part-layout-start
-    part-layout-end
-    slice-aggregate-layout
-    slice-aggregate-layout-2
-    slice-aggregate-layout-3
-    slice-aggregate-layout-4
-    slice-aggregate-layout-5
-    slice-aggregate-layout-6
-    slice-aggregate-layout-7
-    slice-aggregate-layout-8
-    slice-aggregate-layout-9
-    layout-requires
-    enum-known-answer
+    slice-aggregate-lines-layout
+    slice-aggregate-lines-layout-2
+    slice-aggregate-lines-layout-3
+    lines-layout-requires
+    enum-known-number
     refused-requires
-    enum-known-answer-2
+    enum-known-width
     slice-aggregate-table
     slice-aggregate-table-2
     slice-aggregate-table-3

@@ -1,0 +1,157 @@
+-- Laws of what is written into a buffer, part after part.
+-- Assumes nothing.
+use Prim.Native.Nat.{ℕ, zero, suc, _+_, _*_, _-_, _/_, _%_, _≤_, _<_}
+use mathlib.Core.Path.{_≡_, refl, ap, sym, _∙_}
+use mathlib.Core.List.{List, [], _∷_, _++_, append-nil, append-assoc}
+use native.Mathlib.Numerals.{add-one}
+use native.Mathlib.Omega.{arith}
+use lib.ListN.{length, take, drop, getD, set, length-set, length-append, length-take, length-drop}
+use lib.Seq.{take-suc, take-suc-set, take-all, drop-cons, drop-set-lt, getD-set-same, drop-length, length-take-le}
+use borrow.Author.Tests.{lt-ltb, le-ltb}
+use Rattle.seq.specs.Decimal.{decimal, digitsOnto}
+use Rattle.text.specs.Characters.{space}
+use Rattle.printing.specs.Printing.{Put, Prints, spaced}
+
+pub put-none : (d : List ℕ) (at : ℕ) → at ≤ length d → Put 0 d d at at []
+put-none d at h = record { same = refl; room = h; few = omega arith; bytes = sym (append-nil (take at d)) }
+
+pub put-byte : (d : List ℕ) (at b : ℕ) → at < length d → Put 1 d (set d at b) at (at + 1) (b ∷ [])
+put-byte d at b h =
+    record {
+      same = length-set d at b;
+      room = omega arith;
+      few = omega arith;
+      bytes = rw add-one (take-suc-set d at b h);
+    }
+
+module _ {m n : ℕ} {d e f : List ℕ} {at mid r : ℕ} {s t : List ℕ} where
+  pub put-then : Put m d e at mid s → Put n e f mid r t → Put (m + n) d f at r (s ++ t)
+  put-then p q =
+      record {
+        same = q .same ∙ p .same;
+        room = omega (arith, q .room, p .same);
+        few = omega (arith, q .few, p .few);
+        bytes = q .bytes ∙ ap (λ (l : List ℕ). l ++ t) (p .bytes) ∙ append-assoc (take at d) s t;
+      }
+
+module _ {m : ℕ} {d e : List ℕ} {at r : ℕ} {s : List ℕ} where
+  pub put-as : {t : List ℕ} → Put m d e at r s → s ≡ t → Put m d e at r t
+  put-as p h =
+      record { same = p .same; room = p .room; few = p .few; bytes = p .bytes ∙ ap (λ (l : List ℕ). take at d ++ l) h }
+
+  pub put-most : {n : ℕ} → Put m d e at r s → m ≤ n → Put n d e at r s
+  put-most p h = record { same = p .same; room = p .room; few = omega (arith, p .few); bytes = p .bytes }
+
+  -- the place after a part
+  pub put-next : Put m d e at r s → at ≤ length d → r ≡ at + length s
+  put-next p h =
+      let whole = simp length-append at (ap length (p .bytes)) in
+      let here = length-take-le r e (omega (arith, p .room, p .same)) in
+      let there = length-take-le at d h in
+      omega (arith, whole, here, there)
+
+-- all that was written, from the buffer's start
+pub put-prints : {m : ℕ} {d e : List ℕ} {r : ℕ} {s : List ℕ} → Put m d e 0 r s → Prints e r s
+put-prints p = record { within = omega (arith, p .room, p .same); start = p .bytes }
+
+pub prints-as : {out : List ℕ} {r : ℕ} {s t : List ℕ} → Prints out r s → s ≡ t → Prints out r t
+prints-as p e = record { within = p .within; start = p .start ∙ e }
+
+-- Copying
+
+pub copied-none : (d s : List ℕ) (at : ℕ) → at + length s ≤ length d → Put 0 d d at (at + 0) (take 0 s)
+copied-none d s at h =
+    let e : at + 0 ≡ at = omega arith in
+    rw e (put-none d at (omega arith))
+
+module _ {d e : List ℕ} (s : List ℕ) (at : ℕ) where
+  pub copied-next : (i : ℕ) → i < length s → at + length s ≤ length d → Put i d e at (at + i) (take i s)
+      → Put (i + 1) d (set e (at + i) (getD s i 0)) at (at + (i + 1)) (take (i + 1) s)
+  copied-next i h room p =
+      let there : at + i < length e = omega (arith, p .same) in
+      let next : at + (i + 1) ≡ at + i + 1 = omega arith in
+      let more : take (i + 1) s ≡ take i s ++ getD s i 0 ∷ [] = rw add-one (take-suc s i 0 h) in
+      rw (next, more) (put-then p (put-byte e (at + i) (getD s i 0) there))
+
+  pub copied-all : (i : ℕ) → i ≤ length s → length s ≤ i → Put i d e at (at + i) (take i s) → Put (length s) d e at (at + i) s
+  copied-all i h k p = put-most (put-as p (take-all i s k)) h
+
+-- Decimal digits, from the last
+
+module _ (d : List ℕ) (whole : List ℕ) (n : ℕ) where
+  digits-front : (i : ℕ) → i < length d → drop i (set d i (48 + n % 10)) ≡ (48 + n % 10) ∷ drop (suc i) d
+  digits-front i h =
+      let there : i < length (set d i (48 + n % 10)) = omega (arith, length-set d i (48 + n % 10)) in
+      rw (drop-cons (set d i (48 + n % 10)) i 0 there, getD-set-same d i (48 + n % 10) 0 h, drop-set-lt (suc i) d i (48 + n % 10) (omega arith))
+
+  pub digits-last : (i : ℕ) → i < length d → n < 10 → digitsOnto (suc i) n (drop (suc i) d) ≡ whole → drop i (set d i (48 + n % 10)) ≡ whole
+  unfolding digitsOnto
+  digits-last i h small e = digits-front i h ∙ (rw (lt-ltb n 10 small) at e)
+
+  pub digits-next : (i : ℕ) → i < length d → 10 ≤ n → digitsOnto (suc i) n (drop (suc i) d) ≡ whole
+      → digitsOnto i (n / 10) (drop i (set d i (48 + n % 10))) ≡ whole
+  unfolding digitsOnto
+  digits-next i h large e = rw (digits-front i h) (rw (le-ltb n 10 large) at e)
+
+pub digits-start : (n : ℕ) (d : List ℕ) → length d ≡ 20 → digitsOnto 20 n (drop 20 d) ≡ decimal n
+digits-start n d h =
+    let none : drop 20 d ≡ [] = rw h at (drop-length d) in
+    ap (λ (l : List ℕ). digitsOnto 20 n l) none
+
+module _ (d : List ℕ) (n : ℕ) {whole : List ℕ} (i : ℕ) (h : length d ≡ 20) (p : 0 < i) (k : i ≤ 20) (e : digitsOnto i n (drop i d) ≡ whole) where
+  before-one : suc (i - 1) ≡ i
+  before-one = omega arith
+
+  pub digits-closed : n < 10 → (length (set d (i - 1) (48 + n % 10)) ≡ 20) × (i - 1 ≤ 20) × (drop (i - 1) (set d (i - 1) (48 + n % 10)) ≡ whole)
+  digits-closed small =
+      let there : i - 1 < length d = omega arith in
+      (length-set d (i - 1) (48 + n % 10) ∙ h, omega arith, digits-last d whole n (i - 1) there small (rw before-one e))
+
+  pub digits-again : 10 ≤ n
+      → (i - 1 ≤ 20) × (length (set d (i - 1) (48 + n % 10)) ≡ 20) × (digitsOnto (i - 1) (n / 10) (drop (i - 1) (set d (i - 1) (48 + n % 10))) ≡ whole)
+  digits-again large =
+      let there : i - 1 < length d = omega arith in
+      (omega arith, length-set d (i - 1) (48 + n % 10) ∙ h, digits-next d whole n (i - 1) there large (rw before-one e))
+
+pub digits-none : (d : List ℕ) (n : ℕ) {whole : List ℕ} (i : ℕ) → i ≤ 0 → digitsOnto i n (drop i d) ≡ whole → drop i d ≡ whole
+unfolding digitsOnto
+digits-none d n zero h e = e
+digits-none d n (suc i) h e = absurd (omega arith)
+
+pub set-kept : (d before : List ℕ) (i v : ℕ) → length d ≡ 20 → length before ≡ 20 → length (set d i v) ≡ length before
+set-kept d before i v h k = length-set d i v ∙ h ∙ sym k
+
+pub decimal-put : {d e : List ℕ} {at r : ℕ} (b : List ℕ) (start n : ℕ) → length b ≡ 20 → start ≤ 20 → drop start b ≡ decimal n
+    → Put (length (take (20 - start) (drop start b))) d e at r (take (20 - start) (drop start b)) → Put 20 d e at r (decimal n)
+decimal-put b start n h k told p =
+    let long = length-drop start b in
+    let whole : take (20 - start) (drop start b) ≡ decimal n = take-all (20 - start) (drop start b) (omega (arith, long)) ∙ told in
+    put-most (put-as p whole) (omega (arith, length-take (20 - start) (drop start b)))
+
+-- Numbers, each after a space
+
+pub spaced-append : (ms ns : List ℕ) → spaced (ms ++ ns) ≡ spaced ms ++ spaced ns
+unfolding spaced
+spaced-append [] ns = refl
+spaced-append (m ∷ ms) ns =
+    ap (λ (l : List ℕ). space ∷ decimal m ++ l) (spaced-append ms ns) ∙ ap (λ (l : List ℕ). space ∷ l) (sym (append-assoc (decimal m) (spaced ms) (spaced ns)))
+
+pub numbers-next : {d e f g : List ℕ} {at end mid r : ℕ} (values : List ℕ) (i : ℕ) → i < length values
+    → Put (21 * i) d e at end (spaced (take i values)) → Put 1 e f end mid (space ∷ []) → Put 20 f g mid r (decimal (getD values i 0))
+    → Put (21 * (i + 1)) d g at r (spaced (take (i + 1) values))
+unfolding spaced
+numbers-next values i h p q w =
+    let more : take (i + 1) values ≡ take i values ++ getD values i 0 ∷ [] = rw add-one (take-suc values i 0 h) in
+    let one : spaced (getD values i 0 ∷ []) ≡ (space ∷ []) ++ decimal (getD values i 0) = ap (λ (l : List ℕ). space ∷ l) (append-nil (decimal (getD values i 0))) in
+    let whole : spaced (take (i + 1) values) ≡ spaced (take i values) ++ ((space ∷ []) ++ decimal (getD values i 0)) =
+    rw (more, spaced-append (take i values) (getD values i 0 ∷ []), one)
+    in
+    put-most (put-as (put-then p (put-then q w)) (sym whole)) (omega arith)
+
+pub numbers-none : (d : List ℕ) (at : ℕ) (values : List ℕ) → at + 21 * length values ≤ length d → Put (21 * 0) d d at at (spaced (take 0 values))
+unfolding spaced
+numbers-none d at values h = put-none d at (omega arith)
+
+pub numbers-all : {d e : List ℕ} {at r : ℕ} (values : List ℕ) (i : ℕ) → i ≤ length values → length values ≤ i
+    → Put (21 * i) d e at r (spaced (take i values)) → Put (21 * length values) d e at r (spaced values)
+numbers-all values i h k p = put-most (put-as p (ap spaced (take-all i values k))) (omega arith)

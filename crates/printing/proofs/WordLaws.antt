@@ -1,0 +1,24 @@
+-- Laws of a line of words: what is written is what is printed.
+-- Assumes nothing.
+use Prim.Native.Nat.{ℕ}
+use mathlib.Core.List.{List, [], _∷_, _++_, append-assoc}
+use Rattle.seq.specs.Ascii.{ascii}
+use Rattle.grid.specs.Listing.{lineFeed, printed}
+use Rattle.printing.specs.Printing.{Put, Prints, spaced, cellPrinted, refusedLine}
+use Rattle.printing.proofs.PutLaws.{put-then, put-as, put-prints}
+
+abbrev cellWord : List ℕ
+cellWord = 0x63 ∷ 0x65 ∷ 0x6c ∷ 0x6c ∷ []
+
+abbrev refusedWord : List ℕ
+refusedWord = 0x72 ∷ 0x65 ∷ 0x66 ∷ 0x75 ∷ 0x73 ∷ 0x65 ∷ 0x64 ∷ []
+
+pub cell-put : {d e f : List ℕ} {at mid r : ℕ} (a b x y z : ℕ) → Put 109 d e at mid (cellWord ++ spaced (a ∷ b ∷ x ∷ y ∷ z ∷ [])) → Put 1 e f mid r (lineFeed ∷ [])
+    → Put 110 d f at r (cellPrinted a b x y z)
+unfolding spaced printed ascii
+cell-put a b x y z p q = put-as (put-then p q) (simp append-assoc)
+
+pub refused-put : {d e f : List ℕ} {mid r : ℕ} (a b : ℕ) → Put 49 d e 0 mid (refusedWord ++ spaced (a ∷ b ∷ [])) → Put 1 e f mid r (lineFeed ∷ [])
+    → Prints f r (refusedLine a b)
+unfolding spaced printed ascii
+refused-put a b p q = put-prints (put-as (put-then p q) (simp append-assoc))

@@ -1,0 +1,43 @@
+-- `printing::decimal` meets its contract.
+-- Assumes nothing.
+use Rattle.printing.proofs.PutLaws.{decimal-put}
+use borrow.Author.Needs.{needs}
+use Rattle.printing.proofs.decimal.Statement.{statement}
+use Rattle.printing.proofs.decimal.Tie as tie
+
+slice-aggregate-digits : tie.Need-slice-aggregate-digits
+slice-aggregate-digits c = search needs
+
+digits-requires : tie.Need-digits-requires
+digits-requires c κs = search needs
+
+sub-copy : tie.Need-sub-copy
+sub-copy c = search needs
+
+part-copy-start : tie.Need-part-copy-start
+part-copy-start c = search needs
+
+part-copy-end : tie.Need-part-copy-end
+part-copy-end c = search needs
+
+copy-requires : tie.Need-copy-requires
+copy-requires c κs = search needs
+
+same-length : tie.Need-same-length
+same-length c = search needs
+
+returns : tie.Need-returns
+returns c = search (needs, decimal-put)
+
+pub decimal-spec : {M : Type 1} → statement M
+decimal-spec =
+    tie.close
+    (tie.spec
+    slice-aggregate-digits
+    digits-requires
+    sub-copy
+    part-copy-start
+    part-copy-end
+    copy-requires
+    same-length
+    returns)

@@ -1,0 +1,33 @@
+-- What the functions that print write.
+use Prim.Native.Nat.{ℕ, _+_, _≤_}
+use mathlib.Core.Path.{_≡_}
+use mathlib.Core.List.{List, [], _∷_, _++_}
+use lib.ListN.{length, take}
+use Rattle.seq.specs.Ascii.{ascii}
+use Rattle.seq.specs.Decimal.{decimal}
+use Rattle.text.specs.Characters.{space}
+use Rattle.grid.specs.Listing.{printed}
+
+-- `part` was written into a buffer at `at`: what stood before it stays, the next place is r, at most `most` on
+pub record Put (most : ℕ) (before after : List ℕ) (at r : ℕ) (part : List ℕ) : Type 0 where
+  pub same : length after ≡ length before
+  pub room : r ≤ length before
+  pub few : r ≤ at + most
+  pub bytes : take r after ≡ take at before ++ part
+
+-- a buffer's first r bytes are `part`
+pub record Prints (out : List ℕ) (r : ℕ) (part : List ℕ) : Type 0 where
+  pub within : r ≤ length out
+  pub start : take r out ≡ part
+
+-- each number after a space
+unfoldable pub spaced : List ℕ → List ℕ
+spaced [] = []
+spaced (n ∷ ns) = space ∷ decimal n ++ spaced ns
+
+abbrev pub cellPrinted : ℕ → ℕ → ℕ → ℕ → ℕ → List ℕ
+cellPrinted row column colspan rowspan inner =
+    printed (ascii "cell" ∷ decimal row ∷ decimal column ∷ decimal colspan ∷ decimal rowspan ∷ decimal inner ∷ [])
+
+abbrev pub refusedLine : ℕ → ℕ → List ℕ
+refusedLine number place = printed (ascii "refused" ∷ decimal number ∷ decimal place ∷ [])

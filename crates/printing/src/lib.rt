@@ -1,0 +1,117 @@
+// Numbers and words, printed into a buffer. Each function gives the place after what it wrote.
+ghost use Prim.Native.Nat.{_+_, _*_, _≤_, _<_};
+ghost use mathlib.Core.Path.{_≡_};
+ghost use mathlib.Core.List.{[], _∷_, _++_};
+ghost use lib.ListN.{length, getD, drop};
+ghost use Rattle.seq.specs.Decimal.{decimal};
+ghost use Rattle.printing.specs.Printing.{Put, Prints, spaced, cellPrinted, refusedLine};
+
+pub fn byte(b: u8, out: &mut [u8], at: usize) -> usize
+    requires { ⌜ at < length (now out) ⌝ }
+    ensures { λ r. ⌜ Put 1 (now (out .entry)) (now (out .exit)) at r (b ∷ []) ⌝ }
+{
+    out[at] = b;
+    at + 1
+}
+
+pub fn copy(bytes: &[u8], out: &mut [u8], at: usize) -> usize
+    requires { ⌜ at + length (now bytes) ≤ length (now out) ⌝ }
+    ensures { λ r. ⌜ Put (length (now (bytes .entry))) (now (out .entry)) (now (out .exit)) at r (now (bytes .entry)) ⌝ }
+{
+    let mut i = 0;
+    while i < bytes.len() {
+        out[at + i] = bytes[i];
+        i += 1;
+    }
+    at + i
+}
+
+// Puts the decimal digits at the end of `digits` and gives the place of the first.
+fn digits(number: usize, digits: &mut [u8]) -> usize
+    requires { ⌜ length (now digits) ≡ 20 ⌝ }
+    ensures { λ r. ⌜ (length (now (digits .exit)) ≡ 20) × (r ≤ 20) × (drop r (now (digits .exit)) ≡ decimal number) ⌝ }
+{
+    let mut left = number;
+    let mut i = 20;
+    while 0 < i {
+        i -= 1;
+        digits[i] = b'0' + (left % 10) as u8;
+        if left < 10 {
+            return i;
+        }
+        left = left / 10;
+    }
+    i
+}
+
+fn decimal(number: usize, out: &mut [u8], at: usize) -> usize
+    requires { ⌜ at + 20 ≤ length (now out) ⌝ }
+    ensures { λ r. ⌜ Put 20 (now (out .entry)) (now (out .exit)) at r (decimal number) ⌝ }
+{
+    let mut buffer = [0u8; 20];
+    let start = digits(number, &mut buffer);
+    copy(&buffer[start..20], out, at)
+}
+
+// Each number after a space.
+pub fn numbers(values: &[usize], out: &mut [u8], at: usize) -> usize
+    requires { ⌜ at + 21 * length (now values) ≤ length (now out) ⌝ }
+    ensures { λ r. ⌜ Put (21 * length (now (values .entry))) (now (out .entry)) (now (out .exit)) at r (spaced (now (values .entry))) ⌝ }
+{
+    let mut i = 0;
+    let mut end = at;
+    while i < values.len() {
+        end = byte(b' ', out, end);
+        end = decimal(values[i], out, end);
+        i += 1;
+    }
+    end
+}
+
+// A line's first word and the numbers after it.
+pub fn words(name: &[u8], values: &[usize], out: &mut [u8], at: usize) -> usize
+    requires { ⌜ at + (length (now name) + 21 * length (now values)) ≤ length (now out) ⌝ }
+    ensures { λ r. ⌜ Put (length (now (name .entry)) + 21 * length (now (values .entry))) (now (out .entry)) (now (out .exit)) at r (now (name .entry) ++ spaced (now (values .entry))) ⌝ }
+{
+    let end = copy(name, out, at);
+    numbers(values, out, end)
+}
+
+pub fn wide(x: u16) -> usize
+    ensures { λ r. ⌜ (r ≡ x) × (r < 65536) ⌝ }
+{
+    x as usize
+}
+
+// Entry i of an array, 0 past its end.
+pub fn entry(array: &[u16], i: usize) -> usize
+    ensures { λ r. ⌜ (r ≡ getD (now (array .entry)) i 0) × (r < 65536) ⌝ }
+{
+    if i < array.len() { wide(array[i]) } else { 0 }
+}
+
+pub fn cell_line(
+    row: usize,
+    column: usize,
+    colspan: usize,
+    rowspan: usize,
+    inner: usize,
+    out: &mut [u8],
+    at: usize,
+) -> usize
+    requires { ⌜ at + 110 ≤ length (now out) ⌝ }
+    ensures { λ r. ⌜ Put 110 (now (out .entry)) (now (out .exit)) at r (cellPrinted row column colspan rowspan inner) ⌝ }
+{
+    let values = [row, column, colspan, rowspan, inner];
+    let end = words(b"cell", &values, out, at);
+    byte(b'\n', out, end)
+}
+
+pub fn refused(number: usize, place: usize, out: &mut [u8]) -> usize
+    requires { ⌜ 131072 ≤ length (now out) ⌝ }
+    ensures { λ r. ⌜ Prints (now (out .exit)) r (refusedLine number place) ⌝ }
+{
+    let values = [number, place];
+    let end = words(b"refused", &values, out, 0);
+    byte(b'\n', out, end)
+}

@@ -1,14 +1,14 @@
--- `checks::any_over` meets its contract. The invariant: any number is over the limit where any from i on is.
+-- `limits::any_over` meets its contract. The invariant: any number is over the limit where any from i on is.
 -- Assumes nothing.
 use Prim.Native.Nat.{_-_, _≤_}
 use mathlib.Core.Path.{_≡_}
 use lib.ListN.{length, drop}
-use Rattle.checks.specs.Checks.{anyOver}
-use Rattle.checks.proofs.CheckLaws.{over-here, not-over-here, none-over}
+use Rattle.limits.specs.Agreement.{anyOver}
+use Rattle.limits.proofs.LimitLaws.{over-here, not-over-here, none-over}
 use native.Mathlib.Omega.{arith}
 use borrow.Author.Needs.{needs}
-use Rattle.checks.proofs.any_over.Statement.{statement}
-use Rattle.checks.proofs.any_over.Tie as tie
+use Rattle.limits.proofs.any_over.Statement.{statement}
+use Rattle.limits.proofs.any_over.Tie as tie
 
 abbrev Inv-loop : tie.InvT-loop
 Inv-loop numbers limit i₀ i = (i ≤ length numbers) × (anyOver limit numbers ≡ anyOver limit (drop i numbers))

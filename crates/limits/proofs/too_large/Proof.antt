@@ -1,9 +1,9 @@
--- `checks::too_large` meets its contract: from its calls.
+-- `limits::too_large` meets its contract: from its calls.
 -- Assumes nothing.
-use Rattle.checks.proofs.CheckLaws.{many-lines, other-limits}
+use Rattle.limits.proofs.LimitLaws.{many-lines, other-limits}
 use borrow.Author.Needs.{needs}
-use Rattle.checks.proofs.too_large.Statement.{statement}
-use Rattle.checks.proofs.too_large.Tie as tie
+use Rattle.limits.proofs.too_large.Statement.{statement}
+use Rattle.limits.proofs.too_large.Tie as tie
 
 returns : tie.Need-returns
 returns c = search (needs, many-lines)

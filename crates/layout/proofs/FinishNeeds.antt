@@ -3,14 +3,10 @@
 use Prim.Native.Nat.{ℕ, _+_, _*_, _-_, _≤_, _<_}
 use mathlib.Core.Path.{_≡_, refl, sym, _∙_}
 use mathlib.Core.Bool.{true, false}
-use mathlib.Core.List.{List, [], _∷_, flatMap, List·Memᴰ, List·Memᴰ·head, List·Memᴰ·tail}
-use native.Mathlib.Nat.{mul-suc}
+use mathlib.Core.List.{List, [], _∷_, flatMap, List·Memᴰ}
 use native.Mathlib.Omega.{arith}
 use lib.ListN.{length, getD, length-append}
 use borrow.Author.Tests.{ltb-false}
-use borrow.Author.Needs.{fits-under}
-use mir.Syntax.{w64}
-use mir.Val.{Fits}
 use Rattle.seq.specs.Lists.{sum}
 use Rattle.seq.proofs.FlatMaps.{length-flatMap}
 use Rattle.seq.proofs.Tests.{or-neither}
@@ -26,9 +22,8 @@ use Rattle.grid.specs.LayoutParts.{finishSizes, finishArrays}
 use Rattle.grid.specs.Arrays.{codeAt, rectsOf}
 use Rattle.grid.proofs.EntryLaws.{length-rects}
 use Rattle.grid.proofs.SizeLaws.{innerCount}
-use Rattle.entries.specs.Edges.{Collected, rowLinesBelow, columnLinesBelow}
-use Rattle.entries.specs.Writing.{linesHeld, Rising, columnEntries, rowEntries, cellEntries, rangeEntries, allRanges, Inside, Numbered}
-use Rattle.entries.specs.declared.Bounds.{Bounds}
+use Rattle.entries.specs.Edges.{rowLinesBelow, columnLinesBelow}
+use Rattle.entries.specs.Writing.{linesHeld, Rising, columnEntries, rowEntries, cellEntries, rangeEntries, allRanges, Numbered}
 use Rattle.entries.specs.declared.Parts.{Parts}
 use Rattle.entries.proofs.TracedLaws.{rows-some, columns-some, small-bytes}
 use Rattle.reading.specs.Call.{TracedSheet}

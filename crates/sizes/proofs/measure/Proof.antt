@@ -30,7 +30,7 @@ mul-short-3 : tie.Need-mul-short-3
 mul-short-3 c = search needs
 
 mul-short-4 : tie.Need-mul-short-4
-mul-short-4 c = search (needs, few-ranges)
+mul-short-4 c = search few-ranges
 
 returns : tie.Need-returns
 returns c = search needs

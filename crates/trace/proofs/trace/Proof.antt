@@ -18,7 +18,7 @@ returns : tie.Need-returns Inv-loop μ-loop
 returns c = search (needs, small-grid)
 
 new-requires : tie.Need-new-requires Inv-loop μ-loop
-new-requires c κs = search (needs, wide-enough)
+new-requires c κs = search wide-enough
 
 loop-holds : tie.Need-loop-holds Inv-loop μ-loop
 loop-holds c = (search needs, search (needs, tall-enough), search (needs, tracing-starts))

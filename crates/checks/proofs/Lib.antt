@@ -1,1 +1,1 @@
-pub mod CheckLaws
+mod CheckLaws

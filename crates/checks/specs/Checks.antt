@@ -1,24 +1,9 @@
--- What the checks of the layout call ask and answer.
+-- What the checks of the layout call answer.
 use Prim.Native.Nat.{ℕ}
-use mathlib.Core.Path.{_≡_}
-use mathlib.Core.Bool.{Bool}
-use mathlib.Core.List.{List}
 use mathlib.Core.Option.{Option, none, some}
-use lib.Dec.{ltb}
-use lib.ListN.{length}
-use Rattle.seq.specs.Lists.{sum, any}
 use Rattle.checks.specs.declared.Place.{Place}
 use Rattle.checks.specs.declared.Place.the-variants.{At, Nowhere}
-
--- the arrays of a drawing agree with each other
-pub record Agree (lengths columns text : List ℕ) : Type 0 where
-  pub columnsAgree : length columns ≡ length lengths
-  pub bytesAgree : sum lengths ≡ length text
 
 abbrev pub placeOf : Place → Option ℕ
 placeOf (At y) = some y
 placeOf Nowhere = none
-
--- any number is over the limit
-unfoldable pub anyOver : ℕ → List ℕ → Bool
-anyOver limit numbers = any (λ n. ltb limit n) numbers

@@ -6,23 +6,14 @@ ghost use lib.ListN.{length};
 ghost use lib.Dec.{eqb};
 ghost use Rattle.seq.specs.Lists.{sum, firstAt};
 ghost use Rattle.text.specs.Utf8.{wellFormed};
-ghost use Rattle.grid.specs.Read.{drawingTooLarge};
-ghost use Rattle.grid.specs.Flat.{drawingContradicts, splitText, linesFrom};
-ghost use Rattle.checks.specs.Checks.{Agree, placeOf, anyOver};
+ghost use Rattle.grid.specs.Flat.{drawingContradicts, splitText};
+ghost use Rattle.checks.specs.Checks.{placeOf};
 
 // The first line at fault, or none.
 pub enum Place {
     At(usize),
     Nowhere,
 }
-
-const MAX_LINES: usize = 128;
-
-const MAX_LINE_BYTES: u16 = 512;
-
-const MAX_BYTES: usize = 32768;
-
-const MAX_COLUMN: u16 = 255;
 
 // Do the lengths add up to this number? It is counted down, so that no sum can wrap.
 fn adds_up(lengths: &[u16], bytes: usize) -> bool
@@ -55,31 +46,6 @@ pub fn contradicts(
         & (columns.len() == lines)
         & (text.len() == bytes)
         & adds_up(lengths, bytes))
-}
-
-// Is any number over this limit?
-fn any_over(numbers: &[u16], limit: u16) -> bool
-    ensures { λ r. ⌜ r ≡ anyOver limit (now (numbers .entry)) ⌝ }
-{
-    let mut i = 0;
-    while i < numbers.len() {
-        if limit < numbers[i] {
-            return true;
-        }
-        i += 1;
-    }
-    false
-}
-
-// 2, of a drawing whose arrays agree.
-pub fn too_large(lengths: &[u16], columns: &[u16], text: &[u8]) -> bool
-    requires { ⌜ Agree (now lengths) (now columns) (now text) ⌝ }
-    ensures { λ r. ⌜ r ≡ drawingTooLarge (linesFrom (now (lengths .entry)) (now (columns .entry)) (now (text .entry))) ⌝ }
-{
-    if MAX_LINES < lengths.len() {
-        return true;
-    }
-    any_over(lengths, MAX_LINE_BYTES) | any_over(columns, MAX_COLUMN) | (MAX_BYTES < text.len())
 }
 
 // 3: the first line that is not UTF-8 or has a character outside the set.

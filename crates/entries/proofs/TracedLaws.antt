@@ -1,6 +1,6 @@
 -- What the column and row lines, and the ranges, of a traced drawing are.
 -- Assumes nothing.
-use Prim.Native.Nat.{ℕ, _+_, _-_, _≤_, _<_}
+use Prim.Native.Nat.{ℕ, _+_, _≤_, _<_}
 use mathlib.Core.Path.{_≡_, refl, sym, ap, _∙_}
 use mathlib.Core.List.{List, [], _∷_, List·Memᴰ, List·Memᴰ·head, List·Memᴰ·not-nil}
 use native.Mathlib.Omega.{arith}
@@ -52,6 +52,12 @@ module _ (lines : List Line) (rs : List Rect) (glyphs offsets : List ℕ) (e : g
 
   pub cover : Cover (gridOf lines) rs
   cover = traced-covers (gridOf lines) rs (grid-accepted (gridOf lines) rs e .1) .0
+
+  pub rows-some : 1 ≤ length (rowLines (gridOf lines) rs)
+  rows-some = let r = cover-some (gridOf lines) rs cover in mem-some (rowLines (gridOf lines) rs) (top-line cover (r .1))
+
+  pub columns-some : 1 ≤ length (columnLines (gridOf lines) rs)
+  columns-some = let r = cover-some (gridOf lines) rs cover in mem-some (columnLines (gridOf lines) rs) (left-line cover (r .1))
 
   tall : gridOf lines .height ≡ length lines
   unfolding gridOf
@@ -109,10 +115,10 @@ module _ (lines : List Line) (rs : List Rect) (glyphs offsets : List ℕ) (e : g
     lefts-rise = record { room = d .room; few = omega (arith, d .few); rising = rw lefts-held (columnLines-rise (gridOf lines) rs) }
 
     pub tops-some : 1 ≤ tops .count
-    tops-some = let r = cover-some (gridOf lines) rs cover in omega (arith, c .counted, ap length (sym (c .listed) ∙ tops-held), mem-some (rowLines (gridOf lines) rs) (top-line cover (r .1)))
+    tops-some = omega (arith, c .counted, ap length (sym (c .listed) ∙ tops-held), rows-some)
 
     pub lefts-some : 1 ≤ lefts .count
-    lefts-some = let r = cover-some (gridOf lines) rs cover in omega (arith, d .counted, ap length (sym (d .listed) ∙ lefts-held), mem-some (columnLines (gridOf lines) rs) (left-line cover (r .1)))
+    lefts-some = omega (arith, d .counted, ap length (sym (d .listed) ∙ lefts-held), columns-some)
 
     pub lefts-small : (x : ℕ) → List·Memᴰ x (linesHeld lefts) → x < 128
     lefts-small x m = let h = range-mem 0 (gridOf lines .width) x (select-mem _ _ (rw (d .listed) at m) .0) in omega arith

@@ -1,10 +1,9 @@
 -- The answer and the arrays of the layout call's last part.
 -- Assumes nothing.
-use Prim.Native.Nat.{ℕ, _*_, _-_, _≤_}
+use Prim.Native.Nat.{ℕ, _-_, _≤_}
 use mathlib.Core.Path.{_≡_, _∙_}
-use mathlib.Core.Bool.{Bool, true, false, _||_}
+use mathlib.Core.Bool.{Bool, true, false}
 use mathlib.Core.List.{List}
-use lib.Dec.{ltb}
 use lib.ListN.{length}
 use Rattle.seq.specs.Lists.{orDefault}
 use Rattle.grid.specs.Answer.{accept, refuse, over}
@@ -17,19 +16,19 @@ use Rattle.grid.proofs.SizeLaws.{innerCount, sizes-agree, short-agrees}
 use Rattle.entries.specs.Writing.{columnEntries, rowEntries, cellEntries, allRanges}
 use Rattle.entries.specs.declared.Parts.{Parts}
 use Rattle.entries.proofs.AgreeLaws.{Laid, arrays-agree}
+use Rattle.sizes.specs.Sized.{tooShort}
 use Rattle.layout.specs.Call.{arrays}
 
--- the tests of 12
-abbrev pub tooShort : LayoutArrays → ℕ → ℕ → ℕ → ℕ → Bool
-tooShort out across down n m =
-    ltb (length (out .columns)) (2 * across) || ltb (length (out .rows)) (3 * down) || ltb (length (out .cells)) (5 * n) || ltb (length (out .ranges)) (2 * m)
+-- the tests of 12, of the arrays lent
+abbrev pub shortFor : LayoutArrays → ℕ → ℕ → ℕ → ℕ → Bool
+shortFor out across down n m = tooShort (length (out .columns)) (length (out .rows)) (length (out .cells)) (length (out .ranges)) across down n m
 
 module _ (lines : List Line) (rs : List Rect) (out : LayoutArrays) (across down n m : ℕ) (columns : across ≡ length (columnLines (gridOf lines) rs) - 1)
     (rows : down ≡ length (rowLines (gridOf lines) rs) - 1) (cells : n ≡ length rs) (ranges : m ≡ innerCount rs) where
-  short-told : layoutShort out (layoutArrays (layoutOf lines (gridOf lines) rs)) ≡ tooShort out across down n m
+  short-told : layoutShort out (layoutArrays (layoutOf lines (gridOf lines) rs)) ≡ shortFor out across down n m
   short-told = short-agrees lines (gridOf lines) rs out ∙ rw (columns, rows, cells, ranges)
 
-  module _ (short : tooShort out across down n m ≡ true) where
+  module _ (short : shortFor out across down n m ≡ true) where
     pub no-room-answer : refuse 12 0 ≡ finishSizes lines rs out
     unfolding finishSizes finishAnswer
     no-room-answer = rw (short-told, short)
@@ -38,7 +37,7 @@ module _ (lines : List Line) (rs : List Rect) (out : LayoutArrays) (across down 
     unfolding finishArrays finishAnswer
     no-room-arrays = rw (short-told, short)
 
-  module _ (enough : tooShort out across down n m ≡ false) where
+  module _ (enough : shortFor out across down n m ≡ false) where
     pub finished-answer : (width : ℕ) → width ≡ length (trimmedAt lines 0)
         → accept (record { width = width; columns = across; rows = down; cells = n; ranges = m }) ≡ finishSizes lines rs out
     unfolding finishSizes finishAnswer

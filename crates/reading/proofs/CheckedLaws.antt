@@ -8,7 +8,7 @@ use native.Mathlib.Omega.{arith}
 use lib.Dec.{eqb, ltb}
 use lib.ListN.{length, getD, take, drop}
 use lib.Seq.{drop-drop}
-use borrow.Author.Tests.{eqb-true, lt-ltb, le-ltb, not-false}
+use borrow.Author.Tests.{eqb-true, not-false}
 use Rattle.seq.specs.Lists.{sum, firstAt, isEmpty}
 use Rattle.seq.proofs.Tests.{and-left, and-right}
 use Rattle.seq.proofs.Gathered.{sum-step, sum-within}
@@ -21,7 +21,8 @@ use Rattle.grid.specs.Slots.{trimmedAt}
 use Rattle.grid.specs.Read.{drawingTooLarge, outsideSet, noRule}
 use Rattle.grid.specs.Flat.{drawingContradicts, splitText, linesWith, linesFrom, linesOf}
 use Rattle.grid.specs.LayoutParts.{widthAnswer}
-use Rattle.checks.specs.Checks.{Agree, placeOf}
+use Rattle.limits.specs.Agreement.{Agree}
+use Rattle.checks.specs.Checks.{placeOf}
 use Rattle.checks.specs.declared.Place.{Place}
 use Rattle.checks.specs.declared.Place.the-variants.{At, Nowhere}
 use Rattle.reading.specs.Call.{drawing}
@@ -129,8 +130,9 @@ module _ (lines bytes : ℕ) (lengths columns text : List ℕ) (a : Bool) (told 
             pub no-rule : not r ≡ true → refuse 4 0 ≡ widthAnswer (drawing lines bytes lengths columns text)
             no-rule e = rw (rest-told, e)
 
-            pub too-wide : not r ≡ false → 128 < length top → refuse 2 0 ≡ widthAnswer (drawing lines bytes lengths columns text)
-            too-wide e h = rw (rest-told, e, lt-ltb 128 (length top) h)
+            module _ (w : Bool) (wide-told : w ≡ ltb 128 (length top)) (rule : not r ≡ false) where
+              pub too-wide : w ≡ true → refuse 2 0 ≡ widthAnswer (drawing lines bytes lengths columns text)
+              too-wide h = rw (rest-told, rule, ← wide-told, h)
 
-            pub measured : not r ≡ false → length top ≤ 128 → accept (length top) ≡ widthAnswer (drawing lines bytes lengths columns text)
-            measured e h = rw (rest-told, e, le-ltb 128 (length top) h)
+              pub measured : w ≡ false → accept (length top) ≡ widthAnswer (drawing lines bytes lengths columns text)
+              measured h = rw (rest-told, rule, ← wide-told, h)

@@ -22,6 +22,8 @@ use Rattle.slots.specs.declared.Filled.{Filled}
 use Rattle.trace.specs.Tracing.{tracedOf, countOf}
 use Rattle.trace.specs.declared.Traced as tracing
 use Rattle.trace.specs.declared.Traced.the-variants.{Covered, Stopped}
+use Rattle.trace_count.specs.Count.{numberOf}
+use Rattle.trace_count.specs.declared.Counted.{Counted}
 use Rattle.reading.specs.Call.{Through}
 
 module _ (lengths columns text rects : List ℕ) {glyphs₀ offsets₀ glyphs offsets : List ℕ} {f : Filled}
@@ -55,7 +57,7 @@ module _ (lengths columns text rects : List ℕ) {glyphs₀ offsets₀ glyphs of
         rw (told, ← lines-length lengths columns text)
         (sym (trace-same (gridOf (linesFrom lengths columns text)) _ (array-same (linesFrom lengths columns text) glyphs offsets (all .right full) (all .holds full))))
 
-    pub through : {t : tracing.Traced} (n : ℕ) → t ≡ Covered n → tracedOf t rects ≡ trace (arrayGrid (length lengths) width glyphs) → countOf t ≤ 1024
+    through : {t : tracing.Traced} (n : ℕ) → t ≡ Covered n → tracedOf t rects ≡ trace (arrayGrid (length lengths) width glyphs) → countOf t ≤ 1024
         → Through (gridOf (linesFrom lengths columns text)) glyphs offsets rects (record { number = 0; place = 0; width = width; cells = n; separators = f .separators })
     unfolding gridAnswer
     through {t = t} n is-covered traced few =
@@ -72,7 +74,7 @@ module _ (lengths columns text rects : List ℕ) {glyphs₀ offsets₀ glyphs of
           separated = λ z. all .separated full;
         }
 
-    pub not-through : {t : tracing.Traced} (number : ℕ) → t ≡ Stopped number → tracedOf t rects ≡ trace (arrayGrid (length lengths) width glyphs)
+    not-through : {t : tracing.Traced} (number : ℕ) → t ≡ Stopped number → tracedOf t rects ≡ trace (arrayGrid (length lengths) width glyphs)
         → Through (gridOf (linesFrom lengths columns text)) glyphs offsets rects (record { number = number; place = 0; width = width; cells = 0; separators = f .separators })
     unfolding gridAnswer
     not-through {t = t} number is-stopped traced =
@@ -89,3 +91,9 @@ module _ (lengths columns text rects : List ℕ) {glyphs₀ offsets₀ glyphs of
           fewSeparators = all .fewSeparators;
           separated = λ z. absurd (some z);
         }
+
+    pub traced-through : (t : tracing.Traced) (k : Counted) → (k .number ≡ numberOf t) × (k .cells ≡ countOf t)
+        → tracedOf t rects ≡ trace (arrayGrid (length lengths) width glyphs) → countOf t ≤ 1024
+        → Through (gridOf (linesFrom lengths columns text)) glyphs offsets rects (record { number = k .number; place = 0; width = width; cells = k .cells; separators = f .separators })
+    traced-through (Covered n) k (number, cells) traced few = rw (number, cells) (through n refl traced few)
+    traced-through (Stopped m) k (number, cells) traced few = rw (number, cells) (not-through m refl traced)

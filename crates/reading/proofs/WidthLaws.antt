@@ -18,8 +18,8 @@ use Rattle.grid.specs.Flat.{drawingContradicts, linesFrom, linesOf}
 use Rattle.grid.specs.LayoutCall.{slotSpace, rectSpace, spaceShort}
 use Rattle.grid.specs.LayoutParts.{widthAnswer}
 use Rattle.grid.proofs.ReadLaws.{passed-if, passed-at}
-use Rattle.checks.specs.Checks.{Agree, anyOver}
-use Rattle.checks.proofs.CheckLaws.{limits-apart}
+use Rattle.limits.specs.Agreement.{Agree, anyOver}
+use Rattle.limits.proofs.LimitLaws.{limits-apart}
 use Rattle.slots.specs.Filling.{Sheet}
 use Rattle.reading.specs.Call.{spaces, drawing}
 use Rattle.reading.proofs.CheckedLaws.{agrees}

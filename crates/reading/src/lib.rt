@@ -2,16 +2,18 @@
 use checks::Place;
 use checks::contradicts;
 use checks::first_outside;
-use checks::too_large;
+use limits::space_short;
+use limits::too_large;
+use limits::too_wide;
 use reach::reach_down;
 use reach::reach_right;
 use rule::is_rule;
 use slots::Separators;
 use slots::fill::fill;
-use trace::Traced;
 use trace::trace;
+use trace_count::count;
 use trim::trim_end;
-ghost use Prim.Native.Nat.{_-_, _≤_, _<_};
+ghost use Prim.Native.Nat.{_≤_, _<_};
 ghost use mathlib.Core.Path.{_≡_};
 ghost use mathlib.Core.List.{[]};
 ghost use lib.ListN.{length, getD};
@@ -19,17 +21,11 @@ ghost use Rattle.seq.specs.Lists.{sum};
 ghost use Rattle.text.specs.Trim.{trimEnd};
 ghost use Rattle.grid.specs.Slots.{gridOf, trimmedAt};
 ghost use Rattle.grid.specs.Flat.{splitText, linesFrom};
-ghost use Rattle.grid.specs.LayoutCall.{slotSpace, rectSpace, spaceShort};
+ghost use Rattle.grid.specs.LayoutCall.{slotSpace, rectSpace};
 ghost use Rattle.grid.specs.LayoutParts.{rectsAnswer, widthAnswer};
 ghost use Rattle.grid.specs.Arrays.{Roomy};
 ghost use Rattle.slots.specs.Filling.{Sheet};
 ghost use Rattle.reading.specs.Call.{spaces, drawing, checkedOf, Through, Reading};
-
-const SLOT_SPACE: usize = 16384;
-
-const RECT_SPACE: usize = 4096;
-
-const MAX_WIDTH: usize = 128;
 
 // What the checks up to the width give.
 pub enum Measured {
@@ -45,17 +41,6 @@ pub struct Outcome {
     pub width: usize,
     pub cells: usize,
     pub separators: Separators,
-}
-
-// 13, of the working space.
-fn space_short(glyphs: usize, offsets: usize, down: usize, right: usize, rects: usize) -> bool
-    ensures { λ r. ⌜ r ≡ spaceShort (record { glyphs = glyphs; offsets = offsets; down = down; right = right; rects = rects }) ⌝ }
-{
-    (glyphs < SLOT_SPACE)
-        | (offsets < SLOT_SPACE)
-        | (down < SLOT_SPACE)
-        | (right < SLOT_SPACE)
-        | (rects < RECT_SPACE)
 }
 
 // Line y, trimmed: a part of the text.
@@ -109,7 +94,7 @@ fn checked(lines: usize, bytes: usize, lengths: &[u16], columns: &[u16], text: &
         };
     }
     let width = top.len();
-    if MAX_WIDTH < width {
+    if too_wide(width) {
         return Measured::Refused {
             number: 2,
             place: 0,
@@ -151,21 +136,13 @@ fn trace_lines(
     let height = lengths.len();
     reach_right(glyphs, height, width, right);
     reach_down(glyphs, height, width, down);
-    match trace(glyphs, down, right, height, width, rects) {
-        Traced::Covered(cells) => Outcome {
-            number: 0,
-            place: 0,
-            width,
-            cells,
-            separators,
-        },
-        Traced::Stopped(number) => Outcome {
-            number,
-            place: 0,
-            width,
-            cells: 0,
-            separators,
-        },
+    let counted = count(trace(glyphs, down, right, height, width, rects));
+    Outcome {
+        number: counted.number,
+        place: 0,
+        width,
+        cells: counted.cells,
+        separators,
     }
 }
 

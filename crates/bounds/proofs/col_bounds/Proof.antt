@@ -12,7 +12,7 @@ collect-requires : tie.Need-collect-requires
 collect-requires c κs = search needs
 
 returns : tie.Need-returns
-returns c = search (needs, columns-collected)
+returns c = search columns-collected
 
 pub col-bounds-spec : {M : Type 1} → statement M
 col-bounds-spec = tie.close (tie.spec edges-requires collect-requires returns)

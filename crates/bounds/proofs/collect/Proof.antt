@@ -46,7 +46,7 @@ loop-again : tie.Need-loop-again Inv-loop μ-loop
 loop-again c = ⊎-elim (λ w. search (needs, collect-line)) (λ w. search (needs, collect-none)) (c .if1 .came)
 
 returns : tie.Need-returns Inv-loop μ-loop
-returns c = search (needs, all-collected)
+returns c = search all-collected
 
 pub collect-spec : {M : Type 1} → statement M
 collect-spec =

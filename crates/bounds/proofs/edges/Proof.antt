@@ -40,10 +40,10 @@ cast-second : tie.Need-cast-second Inv-loop μ-loop
 cast-second c = fits-8-64 (c .shared-slice-known2 .given _)
 
 array-write-marks : tie.Need-array-write-marks Inv-loop μ-loop
-array-write-marks c = search (needs, first-small)
+array-write-marks c = search first-small
 
 array-write-marks-2 : tie.Need-array-write-marks-2 Inv-loop μ-loop
-array-write-marks-2 c = search (needs, second-small)
+array-write-marks-2 c = search second-small
 
 add-k : tie.Need-add-k Inv-loop μ-loop
 add-k c = omega arith
@@ -55,7 +55,7 @@ loop-again : tie.Need-loop-again Inv-loop μ-loop
 loop-again c = search (needs, mark-more, first-small, second-small)
 
 returns : tie.Need-returns Inv-loop μ-loop
-returns c = search (needs, all-marked)
+returns c = search all-marked
 
 pub edges-spec : {M : Type 1} → statement M
 edges-spec =

@@ -12,7 +12,7 @@ collect-requires : tie.Need-collect-requires
 collect-requires c κs = search needs
 
 returns : tie.Need-returns
-returns c = search (needs, rows-collected)
+returns c = search rows-collected
 
 pub row-bounds-spec : {M : Type 1} → statement M
 row-bounds-spec = tie.close (tie.spec edges-requires collect-requires returns)

@@ -31,7 +31,7 @@ cast-n : tie.Need-cast-n Inv-loop μ-loop
 cast-n c = fits-16-64 (c .shared-slice-known .given _)
 
 returns : tie.Need-returns Inv-loop μ-loop
-returns c = search (needs, too-long)
+returns c = search too-long
 
 add-i : tie.Need-add-i Inv-loop μ-loop
 add-i c = omega arith
@@ -43,7 +43,7 @@ loop-again : tie.Need-loop-again Inv-loop μ-loop
 loop-again c = search (needs, counts-down)
 
 returns-2 : tie.Need-returns-2 Inv-loop μ-loop
-returns-2 c = search (needs, counted-down)
+returns-2 c = search counted-down
 
 pub adds-up-spec : {M : Type 1} → statement M
 adds-up-spec =

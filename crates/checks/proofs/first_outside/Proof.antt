@@ -43,13 +43,13 @@ part-well-formed-start : tie.Need-part-well-formed-start Inv-loop μ-loop
 part-well-formed-start c = omega arith
 
 part-well-formed-end : tie.Need-part-well-formed-end Inv-loop μ-loop
-part-well-formed-end c = search (needs, line-end)
+part-well-formed-end c = search line-end
 
 well-formed-requires : tie.Need-well-formed-requires Inv-loop μ-loop
 well-formed-requires c κs = search needs
 
 returns : tie.Need-returns Inv-loop μ-loop
-returns c = search (needs, outside-here)
+returns c = search outside-here
 
 add-y : tie.Need-add-y Inv-loop μ-loop
 add-y c = omega arith
@@ -61,7 +61,7 @@ loop-again : tie.Need-loop-again Inv-loop μ-loop
 loop-again c = search (needs, line-passed, inside-here)
 
 returns-2 : tie.Need-returns-2 Inv-loop μ-loop
-returns-2 c = search (needs, none-outside)
+returns-2 c = search none-outside
 
 pub first-outside-spec : {M : Type 1} → statement M
 first-outside-spec =

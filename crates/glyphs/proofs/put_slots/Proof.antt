@@ -51,7 +51,7 @@ same-length-2 : tie.Need-same-length-2 Inv-loop μ-loop
 same-length-2 c = search needs
 
 returns : tie.Need-returns Inv-loop μ-loop
-returns c = search (needs, put-ends)
+returns c = search put-ends
 
 pub put-slots-spec : {M : Type 1} → statement M
 put-slots-spec =

@@ -15,7 +15,7 @@ abbrev μ-loop : tie.MeasureT-loop
 μ-loop line rule at width glyphs₀ offsets₀ first byte₀ n₀ glyphs offsets byte n = length line - byte
 
 loop-holds : tie.Need-loop-holds Inv-loop μ-loop
-loop-holds c = search (needs, line-starts)
+loop-holds c = search line-starts
 
 decode-requires : tie.Need-decode-requires Inv-loop μ-loop
 decode-requires c κs = search needs
@@ -33,16 +33,16 @@ same-length-2 : tie.Need-same-length-2 Inv-loop μ-loop
 same-length-2 c = search needs
 
 returns : tie.Need-returns Inv-loop μ-loop
-returns c = search (needs, line-refused)
+returns c = search line-refused
 
 add-if1 : tie.Need-add-if1 Inv-loop μ-loop
 add-if1 c = search needs
 
 span-in-set-requires : tie.Need-span-in-set-requires Inv-loop μ-loop
-span-in-set-requires c κs = search (needs, known-in-set)
+span-in-set-requires c κs = search known-in-set
 
 add-if1-2 : tie.Need-add-if1-2 Inv-loop μ-loop
-add-if1-2 c = search (needs, columns-fit)
+add-if1-2 c = search columns-fit
 
 same-length-3 : tie.Need-same-length-3 Inv-loop μ-loop
 same-length-3 c = search needs
@@ -51,7 +51,7 @@ same-length-4 : tie.Need-same-length-4 Inv-loop μ-loop
 same-length-4 c = search needs
 
 returns-2 : tie.Need-returns-2 Inv-loop μ-loop
-returns-2 c = search (needs, line-over)
+returns-2 c = search line-over
 
 add-put-slots : tie.Need-add-put-slots Inv-loop μ-loop
 add-put-slots c = search needs
@@ -63,16 +63,16 @@ put-slots-requires : tie.Need-put-slots-requires Inv-loop μ-loop
 put-slots-requires c κs = search needs
 
 add-byte : tie.Need-add-byte Inv-loop μ-loop
-add-byte c = search (needs, bytes-fit)
+add-byte c = search bytes-fit
 
 add-n : tie.Need-add-n Inv-loop μ-loop
 add-n c = search needs
 
 loop-less : tie.Need-loop-less Inv-loop μ-loop
-loop-less c = search (needs, bytes-left)
+loop-less c = search bytes-left
 
 loop-again : tie.Need-loop-again Inv-loop μ-loop
-loop-again c = search (needs, line-next)
+loop-again c = search line-next
 
 same-length-5 : tie.Need-same-length-5 Inv-loop μ-loop
 same-length-5 c = search needs
@@ -81,7 +81,7 @@ same-length-6 : tie.Need-same-length-6 Inv-loop μ-loop
 same-length-6 c = search needs
 
 returns-3 : tie.Need-returns-3 Inv-loop μ-loop
-returns-3 c = search (needs, line-done)
+returns-3 c = search line-done
 
 pub fill-decoded-spec : {M : Type 1} → statement M
 fill-decoded-spec =

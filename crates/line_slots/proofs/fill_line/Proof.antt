@@ -9,7 +9,7 @@ is-plain-requires : tie.Need-is-plain-requires
 is-plain-requires c κs = search needs
 
 returns : tie.Need-returns
-returns c = search (needs, plain-other-width)
+returns c = search plain-other-width
 
 fill-plain-requires : tie.Need-fill-plain-requires
 fill-plain-requires c κs = search needs
@@ -21,7 +21,7 @@ same-length-2 : tie.Need-same-length-2
 same-length-2 c = search needs
 
 returns-2 : tie.Need-returns-2
-returns-2 c = search (needs, plain-filled)
+returns-2 c = search plain-filled
 
 fill-decoded-requires : tie.Need-fill-decoded-requires
 fill-decoded-requires c κs = search needs

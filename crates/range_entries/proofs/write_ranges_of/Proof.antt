@@ -79,7 +79,7 @@ same-length : tie.Need-same-length Inv-loop μ-loop
 same-length c = search needs
 
 returns : tie.Need-returns Inv-loop μ-loop
-returns c = search (needs, ranges-done)
+returns c = search ranges-done
 
 pub write-ranges-of-spec : {M : Type 1} → statement M
 write-ranges-of-spec =

@@ -12,7 +12,7 @@ abbrev μ-loop : tie.MeasureT-loop
 μ-loop glyphs height width down₀ y₀ down y = y
 
 returns : tie.Need-returns Inv-loop μ-loop
-returns c = search (needs, nothing-down)
+returns c = search nothing-down
 
 sub-y : tie.Need-sub-y Inv-loop μ-loop
 sub-y c = search needs
@@ -21,7 +21,7 @@ reach-down-last-requires : tie.Need-reach-down-last-requires Inv-loop μ-loop
 reach-down-last-requires c κs = search needs
 
 loop-holds : tie.Need-loop-holds Inv-loop μ-loop
-loop-holds c = search (needs, columns-start)
+loop-holds c = search columns-start
 
 sub-y-2 : tie.Need-sub-y-2 Inv-loop μ-loop
 sub-y-2 c = search needs
@@ -33,7 +33,7 @@ loop-less : tie.Need-loop-less Inv-loop μ-loop
 loop-less c = search needs
 
 loop-again : tie.Need-loop-again Inv-loop μ-loop
-loop-again c = search (needs, columns-next)
+loop-again c = search columns-next
 
 same-length : tie.Need-same-length Inv-loop μ-loop
 same-length c = search needs

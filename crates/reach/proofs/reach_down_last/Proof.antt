@@ -40,7 +40,7 @@ same-length : tie.Need-same-length Inv-loop μ-loop
 same-length c = search needs
 
 returns : tie.Need-returns Inv-loop μ-loop
-returns c = search (needs, last-ends)
+returns c = search last-ends
 
 pub reach-down-last-spec : {M : Type 1} → statement M
 reach-down-last-spec =

@@ -41,7 +41,7 @@ same-length : tie.Need-same-length Inv-loop μ-loop
 same-length c = search needs
 
 returns : tie.Need-returns Inv-loop μ-loop
-returns c = search (needs, line-ends)
+returns c = search line-ends
 
 pub reach-down-line-spec : {M : Type 1} → statement M
 reach-down-line-spec =

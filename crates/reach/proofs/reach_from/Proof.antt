@@ -33,10 +33,10 @@ cast-result : tie.Need-cast-result
 cast-result c = search needs
 
 returns : tie.Need-returns
-returns c = search (needs, step-on)
+returns c = search step-on
 
 returns-2 : tie.Need-returns-2
-returns-2 c = search (needs, step-off)
+returns-2 c = search step-off
 
 pub reach-from-spec : {M : Type 1} → statement M
 reach-from-spec =

@@ -13,7 +13,7 @@ abbrev μ-loop : tie.MeasureT-loop
 μ-loop glyphs height width right₀ y₀ right y = height - y
 
 loop-holds : tie.Need-loop-holds Inv-loop μ-loop
-loop-holds c = search (needs, rows-start)
+loop-holds c = search rows-start
 
 reach-right-line-requires : tie.Need-reach-right-line-requires Inv-loop μ-loop
 reach-right-line-requires c κs = search (needs, right-room)
@@ -25,13 +25,13 @@ loop-less : tie.Need-loop-less Inv-loop μ-loop
 loop-less c = search needs
 
 loop-again : tie.Need-loop-again Inv-loop μ-loop
-loop-again c = search (needs, rows-next)
+loop-again c = search rows-next
 
 same-length : tie.Need-same-length Inv-loop μ-loop
 same-length c = search needs
 
 returns : tie.Need-returns Inv-loop μ-loop
-returns c = search (needs, rows-end)
+returns c = search rows-end
 
 pub reach-right-spec : {M : Type 1} → statement M
 reach-right-spec =

@@ -41,6 +41,9 @@ is-rule-requires c κs = search needs
 returns-5 : tie.Need-returns-5
 returns-5 c = search (needs, no-rule)
 
+too-wide-requires : tie.Need-too-wide-requires
+too-wide-requires c κs = search needs
+
 returns-6 : tie.Need-returns-6
 returns-6 c = search (needs, too-wide)
 
@@ -63,5 +66,6 @@ checked-spec =
     trimmed-line-requires
     is-rule-requires
     returns-5
+    too-wide-requires
     returns-6
     returns-7)

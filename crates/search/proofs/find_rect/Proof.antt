@@ -32,7 +32,7 @@ shared-slice-read-if1 : tie.Need-shared-slice-read-if1 Inv-loop μ-loop Inv-sear
 shared-slice-read-if1 c = omega arith
 
 returns : tie.Need-returns Inv-loop μ-loop Inv-search μ-search
-returns c = search (needs, no-corner)
+returns c = search no-corner
 
 shared-slice-read-last : tie.Need-shared-slice-read-last Inv-loop μ-loop Inv-search μ-search
 shared-slice-read-last c = omega arith
@@ -123,7 +123,7 @@ search-again c =
     )
 
 returns-2 : tie.Need-returns-2 Inv-loop μ-loop Inv-search μ-search
-returns-2 c = search (needs, none-found)
+returns-2 c = search none-found
 
 returns-3 : tie.Need-returns-3 Inv-loop μ-loop Inv-search μ-search
 returns-3 c =

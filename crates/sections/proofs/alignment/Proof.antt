@@ -17,7 +17,7 @@ shared-slice-read-if1 : tie.Need-shared-slice-read-if1
 shared-slice-read-if1 c = omega arith
 
 returns : tie.Need-returns
-returns c = search (needs, no-plus)
+returns c = search no-plus
 
 mul-from : tie.Need-mul-from
 mul-from c = omega arith
@@ -32,7 +32,7 @@ add-from : tie.Need-add-from
 add-from c = next-fits (c .shared-slice-known5 .given _)
 
 returns-2 : tie.Need-returns-2
-returns-2 c = search (needs, past-end)
+returns-2 c = search past-end
 
 sub-rest : tie.Need-sub-rest
 sub-rest c = omega arith
@@ -47,13 +47,13 @@ segment-end-requires : tie.Need-segment-end-requires
 segment-end-requires c κs = search needs
 
 slice-aggregate-segment-alignment : tie.Need-slice-aggregate-segment-alignment
-slice-aggregate-segment-alignment c = search (needs, segment-length)
+slice-aggregate-segment-alignment c = search segment-length
 
 segment-alignment-requires : tie.Need-segment-alignment-requires
 segment-alignment-requires c κs = search needs
 
 returns-3 : tie.Need-returns-3
-returns-3 c = search (needs, alignment-found)
+returns-3 c = search alignment-found
 
 pub alignment-spec : {M : Type 1} → statement M
 alignment-spec =

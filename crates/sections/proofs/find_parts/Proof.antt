@@ -7,7 +7,7 @@ use Rattle.sections.proofs.find_parts.Statement.{statement}
 use Rattle.sections.proofs.find_parts.Tie as tie
 
 returns : tie.Need-returns
-returns c = search (needs, no-head, no-part)
+returns c = search (no-head, no-part)
 
 array-read-head : tie.Need-array-read-head
 array-read-head c = search needs
@@ -16,7 +16,7 @@ cast-head : tie.Need-cast-head
 cast-head c = search needs
 
 returns-2 : tie.Need-returns-2
-returns-2 c = search (needs, head-found, one-part)
+returns-2 c = search (head-found, one-part)
 
 sub-if3 : tie.Need-sub-if3
 sub-if3 c = omega arith
@@ -40,10 +40,10 @@ cast-t19 : tie.Need-cast-t19
 cast-t19 c = search needs
 
 returns-3 : tie.Need-returns-3
-returns-3 c = search (needs, head-found, foot-found)
+returns-3 c = search (head-found, foot-found)
 
 returns-4 : tie.Need-returns-4
-returns-4 c = search (needs, head-found, no-foot)
+returns-4 c = search (head-found, no-foot)
 
 pub find-parts-spec : {M : Type 1} → statement M
 find-parts-spec =

@@ -1,18 +1,17 @@
 -- `sections::section` meets its contract: by the row's place.
 -- Assumes nothing.
 use Rattle.sections.proofs.PartLaws.{in-head, in-foot, in-body}
-use borrow.Author.Needs.{needs}
 use Rattle.sections.proofs.section.Statement.{statement}
 use Rattle.sections.proofs.section.Tie as tie
 
 returns : tie.Need-returns
-returns c = search (needs, in-head)
+returns c = search in-head
 
 returns-2 : tie.Need-returns-2
-returns-2 c = search (needs, in-foot)
+returns-2 c = search in-foot
 
 returns-3 : tie.Need-returns-3
-returns-3 c = search (needs, in-body)
+returns-3 c = search in-body
 
 pub section-spec : {M : Type 1} → statement M
 section-spec = tie.close (tie.spec returns returns-2 returns-3)

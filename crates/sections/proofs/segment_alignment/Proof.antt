@@ -2,12 +2,11 @@
 -- Assumes nothing.
 use Rattle.sections.proofs.PartLaws.{empty-segment, both-colons, left-colon, right-colon, no-colon}
 use native.Mathlib.Omega.{arith}
-use borrow.Author.Needs.{needs}
 use Rattle.sections.proofs.segment_alignment.Statement.{statement}
 use Rattle.sections.proofs.segment_alignment.Tie as tie
 
 returns : tie.Need-returns
-returns c = search (needs, empty-segment)
+returns c = search empty-segment
 
 sub-last : tie.Need-sub-last
 sub-last c = omega arith
@@ -19,16 +18,16 @@ shared-slice-read-if2 : tie.Need-shared-slice-read-if2
 shared-slice-read-if2 c = omega arith
 
 returns-2 : tie.Need-returns-2
-returns-2 c = search (needs, both-colons)
+returns-2 c = search both-colons
 
 returns-3 : tie.Need-returns-3
-returns-3 c = search (needs, left-colon)
+returns-3 c = search left-colon
 
 returns-4 : tie.Need-returns-4
-returns-4 c = search (needs, right-colon)
+returns-4 c = search right-colon
 
 returns-5 : tie.Need-returns-5
-returns-5 c = search (needs, no-colon)
+returns-5 c = search no-colon
 
 pub segment-alignment-spec : {M : Type 1} → statement M
 segment-alignment-spec =

@@ -5,7 +5,7 @@ use Rattle.trace.proofs.next_rect.Statement.{statement}
 use Rattle.trace.proofs.next_rect.Tie as tie
 
 find-rect-requires : tie.Need-find-rect-requires
-find-rect-requires c κs = search (needs, left-inside)
+find-rect-requires c κs = search left-inside
 
 enum-known-bottom : tie.Need-enum-known-bottom
 enum-known-bottom c = search needs
@@ -14,7 +14,7 @@ enum-told : tie.Need-enum-told
 enum-told c = search needs
 
 returns : tie.Need-returns
-returns c = search (needs, next-none)
+returns c = search next-none
 
 is-level-requires : tie.Need-is-level-requires
 is-level-requires c κs =
@@ -22,10 +22,10 @@ is-level-requires c κs =
     level-asked (asked .before .before .before .before .pre .1 .0) _ _ (asked .find-rect .ensures) (c .before .bottom .given .1)
 
 returns-2 : tie.Need-returns-2
-returns-2 c = search (needs, next-level)
+returns-2 c = search next-level
 
 returns-3 : tie.Need-returns-3
-returns-3 c = search (needs, next-uneven)
+returns-3 c = search next-uneven
 
 pub next-rect-spec : {M : Type 1} → statement M
 next-rect-spec =

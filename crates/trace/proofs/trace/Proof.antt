@@ -15,13 +15,13 @@ abbrev μ-loop : tie.MeasureT-loop
 μ-loop glyphs down right height width rects₀ sky₀ corner₀ n₀ rects sky corner n = 1024 - n
 
 returns : tie.Need-returns Inv-loop μ-loop
-returns c = search (needs, small-grid)
+returns c = (search needs, (search small-grid, search needs))
 
 new-requires : tie.Need-new-requires Inv-loop μ-loop
-new-requires c κs = search (needs, wide-enough)
+new-requires c κs = search wide-enough
 
 loop-holds : tie.Need-loop-holds Inv-loop μ-loop
-loop-holds c = (search needs, search (needs, tall-enough), search (needs, tracing-starts))
+loop-holds c = (search needs, search tall-enough, search (tracing-starts, tall-enough, wide-enough))
 
 sub-if2 : tie.Need-sub-if2 Inv-loop μ-loop
 sub-if2 c = search needs
@@ -39,13 +39,13 @@ same-length : tie.Need-same-length Inv-loop μ-loop
 same-length c = search needs
 
 returns-2 : tie.Need-returns-2 Inv-loop μ-loop
-returns-2 c = (search needs, (search (needs, none-stops), search needs))
+returns-2 c = (search needs, (search none-stops, search needs))
 
 same-length-2 : tie.Need-same-length-2 Inv-loop μ-loop
 same-length-2 c = search needs
 
 returns-3 : tie.Need-returns-3 Inv-loop μ-loop
-returns-3 c = (search needs, (search (needs, full-stops), search needs))
+returns-3 c = (search needs, (search full-stops, search needs))
 
 put-rect-requires : tie.Need-put-rect-requires Inv-loop μ-loop
 put-rect-requires c κs =
@@ -81,7 +81,7 @@ same-length-3 : tie.Need-same-length-3 Inv-loop μ-loop
 same-length-3 c = search needs
 
 returns-4 : tie.Need-returns-4 Inv-loop μ-loop
-returns-4 c = (search needs, (search (needs, tracing-ends), search needs))
+returns-4 c = (search needs, (search tracing-ends, search needs))
 
 pub trace-spec : {M : Type 1} → statement M
 trace-spec =

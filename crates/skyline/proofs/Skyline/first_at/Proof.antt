@@ -24,7 +24,7 @@ cast-if1 : tie.Need-cast-if1 Inv-loop μ-loop
 cast-if1 c = search needs
 
 returns : tie.Need-returns Inv-loop μ-loop
-returns c = search (needs, first-here)
+returns c = search first-here
 
 add-x : tie.Need-add-x Inv-loop μ-loop
 add-x c = search needs
@@ -41,7 +41,7 @@ loop-again c =
     )
 
 returns-2 : tie.Need-returns-2 Inv-loop μ-loop
-returns-2 c = search (needs, first-nowhere)
+returns-2 c = search first-nowhere
 
 pub first-at-spec : {M : Type 1} → statement M
 first-at-spec =

@@ -26,7 +26,7 @@ cast-if1 : tie.Need-cast-if1 Inv-loop μ-loop
 cast-if1 c = search needs
 
 returns : tie.Need-returns Inv-loop μ-loop
-returns c = search (needs, not-level)
+returns c = search not-level
 
 add-column : tie.Need-add-column Inv-loop μ-loop
 add-column c = search needs
@@ -38,7 +38,7 @@ loop-again : tie.Need-loop-again Inv-loop μ-loop
 loop-again c = search (needs, level-on)
 
 returns-2 : tie.Need-returns-2 Inv-loop μ-loop
-returns-2 c = search (needs, all-level)
+returns-2 c = search all-level
 
 pub is-level-spec : {M : Type 1} → statement M
 is-level-spec =

@@ -49,7 +49,7 @@ loop-again c =
     )
 
 returns : tie.Need-returns Inv-loop μ-loop
-returns c = search (needs, lowest-whole)
+returns c = search lowest-whole
 
 pub lowest-spec : {M : Type 1} → statement M
 lowest-spec =

@@ -35,7 +35,7 @@ loop-again : tie.Need-loop-again Inv-loop μ-loop
 loop-again c = search (needs, raise-on)
 
 returns : tie.Need-returns Inv-loop μ-loop
-returns c = search (needs, raise-whole)
+returns c = search raise-whole
 
 pub raised-spec : {M : Type 1} → statement M
 raised-spec =

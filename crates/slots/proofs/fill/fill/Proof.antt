@@ -16,7 +16,7 @@ abbrev μ-loop : tie.MeasureT-loop
     length lengths - y
 
 loop-holds : tie.Need-loop-holds Inv-loop μ-loop
-loop-holds c = search (needs, sheet-starts)
+loop-holds c = search sheet-starts
 
 mul-end : tie.Need-mul-end Inv-loop μ-loop
 mul-end c = search needs
@@ -25,10 +25,10 @@ shared-slice-read-end : tie.Need-shared-slice-read-end Inv-loop μ-loop
 shared-slice-read-end c = search needs
 
 cast-end : tie.Need-cast-end Inv-loop μ-loop
-cast-end c = search (needs, short-fits)
+cast-end c = search short-fits
 
 add-end : tie.Need-add-end Inv-loop μ-loop
-add-end c = search (needs, line-fits)
+add-end c = search line-fits
 
 mul-t14 : tie.Need-mul-t14 Inv-loop μ-loop
 mul-t14 c = search needs
@@ -37,7 +37,7 @@ shared-slice-read-t17 : tie.Need-shared-slice-read-t17 Inv-loop μ-loop
 shared-slice-read-t17 c = search needs
 
 cast-t18 : tie.Need-cast-t18 Inv-loop μ-loop
-cast-t18 c = search (needs, near-fits)
+cast-t18 c = search near-fits
 
 sub-fill-next : tie.Need-sub-fill-next Inv-loop μ-loop
 sub-fill-next c = search needs
@@ -46,10 +46,10 @@ part-fill-next-start : tie.Need-part-fill-next-start Inv-loop μ-loop
 part-fill-next-start c = search needs
 
 part-fill-next-end : tie.Need-part-fill-next-end Inv-loop μ-loop
-part-fill-next-end c = search (needs, line-inside)
+part-fill-next-end c = search line-inside
 
 fill-next-requires : tie.Need-fill-next-requires Inv-loop μ-loop
-fill-next-requires c κs = search (needs, next-room)
+fill-next-requires c κs = search next-room
 
 same-length : tie.Need-same-length Inv-loop μ-loop
 same-length c = search needs
@@ -58,7 +58,7 @@ same-length-2 : tie.Need-same-length-2 Inv-loop μ-loop
 same-length-2 c = search needs
 
 returns : tie.Need-returns Inv-loop μ-loop
-returns c = search (needs, sheet-wrong)
+returns c = search sheet-wrong
 
 add-y : tie.Need-add-y Inv-loop μ-loop
 add-y c = search needs
@@ -67,7 +67,7 @@ loop-less : tie.Need-loop-less Inv-loop μ-loop
 loop-less c = search needs
 
 loop-again : tie.Need-loop-again Inv-loop μ-loop
-loop-again c = search (needs, sheet-next)
+loop-again c = search sheet-next
 
 same-length-3 : tie.Need-same-length-3 Inv-loop μ-loop
 same-length-3 c = search needs
@@ -76,7 +76,7 @@ same-length-4 : tie.Need-same-length-4 Inv-loop μ-loop
 same-length-4 c = search needs
 
 returns-2 : tie.Need-returns-2 Inv-loop μ-loop
-returns-2 c = search (needs, sheet-done)
+returns-2 c = search sheet-done
 
 pub fill-spec : {M : Type 1} → statement M
 fill-spec =

@@ -15,7 +15,7 @@ mul-fill-line : tie.Need-mul-fill-line
 mul-fill-line c = search needs
 
 fill-line-requires : tie.Need-fill-line-requires
-fill-line-requires c κs = search (needs, trimmed-short)
+fill-line-requires c κs = search trimmed-short
 
 noted-requires : tie.Need-noted-requires
 noted-requires c κs = search needs
@@ -27,7 +27,7 @@ same-length-2 : tie.Need-same-length-2
 same-length-2 c = search needs
 
 returns : tie.Need-returns
-returns c = search (needs, next-filled)
+returns c = search next-filled
 
 pub fill-next-spec : {M : Type 1} → statement M
 fill-next-spec =

@@ -1,8 +1,8 @@
--- `layout::write_layout` meets its contract: the four writers in turn, each on its own array.
+-- `layout_arrays::write_layout` meets its contract: the four writers in turn, each on its own array.
 -- Assumes nothing.
 use borrow.Author.Needs.{needs}
-use Rattle.layout.proofs.write_layout.Statement.{statement}
-use Rattle.layout.proofs.write_layout.Tie as tie
+use Rattle.layout_arrays.proofs.write_layout.Statement.{statement}
+use Rattle.layout_arrays.proofs.write_layout.Tie as tie
 
 write-columns-requires : tie.Need-write-columns-requires
 write-columns-requires c κs = search needs

@@ -1,9 +1,9 @@
--- `reading::space_short` meets its contract: by computing.
+-- `limits::space_short` meets its contract: by computing.
 -- Assumes nothing.
 use mathlib.Core.Path.{refl}
 use Rattle.grid.specs.LayoutCall.{spaceShort}
-use Rattle.reading.proofs.space_short.Statement.{statement}
-use Rattle.reading.proofs.space_short.Tie as tie
+use Rattle.limits.proofs.space_short.Statement.{statement}
+use Rattle.limits.proofs.space_short.Tie as tie
 
 returns : tie.Need-returns
 unfolding spaceShort

@@ -1,14 +1,14 @@
--- `checks::any_over` meets its contract. The invariant: any number is over the limit where any from i on is.
+-- `limits::any_over` meets its contract. The invariant: any number is over the limit where any from i on is.
 -- Assumes nothing.
 use Prim.Native.Nat.{_-_, _≤_}
 use mathlib.Core.Path.{_≡_}
 use lib.ListN.{length, drop}
-use Rattle.checks.specs.Checks.{anyOver}
-use Rattle.checks.proofs.CheckLaws.{over-here, not-over-here, none-over}
+use Rattle.limits.specs.Agreement.{anyOver}
+use Rattle.limits.proofs.LimitLaws.{over-here, not-over-here, none-over}
 use native.Mathlib.Omega.{arith}
 use borrow.Author.Needs.{needs}
-use Rattle.checks.proofs.any_over.Statement.{statement}
-use Rattle.checks.proofs.any_over.Tie as tie
+use Rattle.limits.proofs.any_over.Statement.{statement}
+use Rattle.limits.proofs.any_over.Tie as tie
 
 abbrev Inv-loop : tie.InvT-loop
 Inv-loop numbers limit i₀ i = (i ≤ length numbers) × (anyOver limit numbers ≡ anyOver limit (drop i numbers))
@@ -26,7 +26,7 @@ shared-slice-read-if1 : tie.Need-shared-slice-read-if1 Inv-loop μ-loop
 shared-slice-read-if1 c = omega arith
 
 returns : tie.Need-returns Inv-loop μ-loop
-returns c = search (needs, over-here)
+returns c = search over-here
 
 add-i : tie.Need-add-i Inv-loop μ-loop
 add-i c = omega arith
@@ -38,7 +38,7 @@ loop-again : tie.Need-loop-again Inv-loop μ-loop
 loop-again c = search (needs, not-over-here)
 
 returns-2 : tie.Need-returns-2 Inv-loop μ-loop
-returns-2 c = search (needs, none-over)
+returns-2 c = search none-over
 
 pub any-over-spec : {M : Type 1} → statement M
 any-over-spec =

@@ -1,7 +1,6 @@
 // From a drawing to its table, and to the cut lines of one cell (mod.rs: build_grid_table).
 use cell_cuts::write_cuts;
 use entries::Bounds;
-use entries::Parts;
 use entries::lines::col_bounds;
 use entries::lines::row_bounds;
 use entries::section::find_parts;
@@ -11,6 +10,7 @@ use pieces::prepare;
 use reading::Outcome;
 use reading::read;
 use reading::trimmed_line;
+use room::lacks_room;
 use table_entries::write_sections;
 use table_entries::write_table_cells;
 use table_text::write_text;
@@ -127,12 +127,18 @@ fn finish(
     let size = prepare(lengths, columns, text, offsets, rects, n, starts, counts);
     let down = tops.count - 1;
     let across = lefts.count - 1;
-    if (cols.len() < 2 * across)
-        | (sections.len() < down)
-        | (cells.len() < 5 * n)
-        | (out_lengths.len() < size.lines)
-        | (out_text.len() < size.bytes)
-    {
+    let short = lacks_room(
+        cols.len(),
+        sections.len(),
+        cells.len(),
+        out_lengths.len(),
+        out_text.len(),
+        across,
+        down,
+        n,
+        size,
+    );
+    if short {
         return TableAnswer::Refused {
             number: 12,
             place: 0,

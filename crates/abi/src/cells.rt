@@ -1,12 +1,12 @@
 // The cut lines of one cell.
 use crate::CellReply;
-use table::CellAnswer;
+use cell_answer::CellAnswer;
 use table::cell;
 ghost use mathlib.Core.Path.{_≡_};
 ghost use lib.ListN.{length};
 ghost use Rattle.grid.specs.TableCall.{cellAnswer, cellAfterwards};
 ghost use Rattle.reading.specs.Call.{spaces, drawing};
-ghost use Rattle.table.specs.Call.{cellAnswerOf};
+ghost use Rattle.cell_answer.specs.Answer.{cellAnswerOf};
 ghost use Rattle.abi.specs.CellReply.{cellReplyOf};
 
 fn cell_reply(answer: CellAnswer) -> CellReply

@@ -25,7 +25,7 @@ use Rattle.entries.specs.declared.Bounds.{Bounds}
 use Rattle.entries.specs.declared.Parts.{Parts}
 use Rattle.pieces.specs.Text.{source, keptLines, allLines, Ready, Framed, CountedBy, Preparable, Prepared}
 use Rattle.pieces.specs.declared.TextSize.{TextSize}
-use Rattle.table_entries.specs.Entries.{sectionEntries, tableEntries}
+use Rattle.table_rules.specs.Entries.{sectionEntries, tableEntries}
 use Rattle.room.specs.Room.{tooShort}
 use Rattle.reading.specs.Call.{TracedSheet}
 use Rattle.reading.specs.declared.Outcome.{Outcome}

@@ -103,7 +103,7 @@ module _ (lengths columns text glyphs offsets rects : List ℕ) (o : Outcome) (t
         rw (
           columns-told,
           sections-told lines rs p (headed lengths columns text glyphs offsets rects o t p parts) (footed lengths columns text glyphs offsets rects o t p parts)
-          (omega (arith, tall lengths columns text glyphs offsets rects o t, t .sheet .fewLines)),
+              (omega (arith, tall lengths columns text glyphs offsets rects o t, t .sheet .fewLines)),
           cells-told lines rs (λ r. length (kept r)) (λ r m. ap length (kept-told lengths columns text glyphs offsets rects o t starts m)),
           lines-told,
         )

@@ -3,9 +3,9 @@
 use Prim.Native.Nat.{ℕ}
 use mathlib.Core.Path.{_≡_, ap, _∙_}
 use Rattle.grid.specs.Answer.{Answer}
-use Rattle.table.specs.declared.CellAnswer.{CellAnswer}
-use Rattle.table.specs.declared.CellAnswer.the-variants.{Accepted, Refused}
-use Rattle.table.specs.Call.{cellAnswerOf}
+use Rattle.cell_answer.specs.declared.CellAnswer.{CellAnswer}
+use Rattle.cell_answer.specs.declared.CellAnswer.the-variants.{Accepted, Refused}
+use Rattle.cell_answer.specs.Answer.{cellAnswerOf}
 use Rattle.replies.specs.declared.CellReply.{CellReply}
 use Rattle.replies.specs.CellReply.{cellReplyOf}
 

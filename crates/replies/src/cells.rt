@@ -1,8 +1,8 @@
 // The cell call.
 use crate::CellReply;
-use table::CellAnswer;
+use cell_answer::CellAnswer;
 ghost use mathlib.Core.Path.{_≡_};
-ghost use Rattle.table.specs.Call.{cellAnswerOf};
+ghost use Rattle.cell_answer.specs.Answer.{cellAnswerOf};
 ghost use Rattle.replies.specs.CellReply.{cellReplyOf};
 
 pub fn cell_reply(answer: CellAnswer) -> CellReply

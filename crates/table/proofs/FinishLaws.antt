@@ -2,14 +2,10 @@
 -- Assumes nothing.
 use Prim.Native.Nat.{ℕ, _*_, _-_, _≤_, _<_}
 use mathlib.Core.Path.{_≡_, _∙_}
-use mathlib.Core.Bool.{Bool, true, false, _||_}
+use mathlib.Core.Bool.{Bool, true, false}
 use mathlib.Core.List.{List, [], map, List·Memᴰ}
 use native.Mathlib.Omega.{arith}
-use lib.Dec.{ltb}
 use lib.ListN.{length, getD}
-use mir.Syntax.{w64}
-use mir.Val.{Fits}
-use borrow.Author.Needs.{fits-under}
 use borrow.Author.Tests.{ltb-false}
 use Rattle.seq.proofs.Tests.{or-neither}
 use Rattle.text.specs.Trim.{trimEnd}
@@ -29,7 +25,8 @@ use Rattle.entries.specs.declared.Bounds.{Bounds}
 use Rattle.entries.specs.declared.Parts.{Parts}
 use Rattle.pieces.specs.Text.{source, keptLines, allLines, Ready, Framed, CountedBy, Preparable, Prepared}
 use Rattle.pieces.specs.declared.TextSize.{TextSize}
-use Rattle.table_entries.specs.Entries.{sectionEntries, tableEntries}
+use Rattle.table_rules.specs.Entries.{sectionEntries, tableEntries}
+use Rattle.room.specs.Room.{tooShort}
 use Rattle.reading.specs.Call.{TracedSheet}
 use Rattle.reading.specs.declared.Outcome.{Outcome}
 use Rattle.reading.proofs.CheckedLaws.{trimmed-text}
@@ -40,9 +37,9 @@ use Rattle.table.proofs.FrameLaws.{all-framed}
 use Rattle.table.proofs.TableLaws.{sizes-told, short-told, arrays-told}
 
 -- the tests of 12
-abbrev pub tooShort : TableArrays → ℕ → ℕ → ℕ → ℕ → ℕ → Bool
-tooShort out across down n lines bytes =
-    ltb (length (out .columns)) (2 * across) || ltb (length (out .sections)) down || ltb (length (out .cells)) (5 * n) || ltb (length (out .lengths)) lines || ltb (length (out .text)) bytes
+abbrev short : TableArrays → ℕ → ℕ → ℕ → ℕ → ℕ → Bool
+short out across down n lines bytes =
+    tooShort (length (out .columns)) (length (out .sections)) (length (out .cells)) (length (out .lengths)) (length (out .text)) across down n lines bytes
 
 -- what measuring asks
 pub preparable : (lengths columns text glyphs offsets rects : List ℕ) (o : Outcome) → TracedSheet lengths columns text glyphs offsets rects o
@@ -63,21 +60,18 @@ preparable lengths columns text glyphs offsets rects o t starts counts room =
 module _ (lengths columns text glyphs offsets rects : List ℕ) (o : Outcome) (t : TracedSheet lengths columns text glyphs offsets rects o) (starts : List ℕ)
     (tops lefts : Bounds) (c : Collected (rowLinesBelow (length lengths) (rectsOf (o .cells) rects)) (length lengths) tops) (d : Collected (columnLinesBelow (o .width) (rectsOf (o .cells) rects)) (o .width) lefts)
     (counts : List ℕ) (size : TextSize) (m : Prepared (source lengths columns text starts offsets) (rectsOf (o .cells) rects) counts size) (out : TableArrays) where
-  tests-told : tooShort out (length (columnLines (gridOf (linesFrom lengths columns text)) (rectsOf (o .cells) rects)) - 1) (length (rowLines (gridOf (linesFrom lengths columns text)) (rectsOf (o .cells) rects)) - 1) (length (rectsOf (o .cells) rects)) (length (allLines (source lengths columns text starts offsets) (rectsOf (o .cells) rects))) (length (joinText (allLines (source lengths columns text starts offsets) (rectsOf (o .cells) rects))))
-      ≡ tooShort out (lefts .count - 1) (tops .count - 1) (o .cells) (size .lines) (size .bytes)
+  tests-told : short out (length (columnLines (gridOf (linesFrom lengths columns text)) (rectsOf (o .cells) rects)) - 1) (length (rowLines (gridOf (linesFrom lengths columns text)) (rectsOf (o .cells) rects)) - 1) (length (rectsOf (o .cells) rects)) (length (allLines (source lengths columns text starts offsets) (rectsOf (o .cells) rects))) (length (joinText (allLines (source lengths columns text starts offsets) (rectsOf (o .cells) rects))))
+      ≡ short out (lefts .count - 1) (tops .count - 1) (o .cells) (size .lines) (size .bytes)
   tests-told = rw (across-told lengths columns text glyphs offsets rects o t tops lefts c d, down-told lengths columns text glyphs offsets rects o t tops lefts c d, length-rects (o .cells) rects, m .lines, m .bytes)
 
-  pub across-fits : Fits w64 (2 * (lefts .count - 1))
-  across-fits = fits-under w64 (2 * (lefts .count - 1)) 257 (omega (arith, d .few, t .roomy .widthFits)) tt
+  pub small : (lefts .count - 1 ≤ 128) × (o .cells ≤ 1024)
+  small = (omega (arith, d .few, t .roomy .widthFits), t .through .few)
 
-  pub cells-fit : Fits w64 (5 * o .cells)
-  cells-fit = fits-under w64 (5 * o .cells) 5121 (omega (arith, t .through .few)) tt
-
-  pub refused : tooShort out (lefts .count - 1) (tops .count - 1) (o .cells) (size .lines) (size .bytes) ≡ true → (refuse 12 0 ≡ tableSizesOf (linesFrom lengths columns text) (rectsOf (o .cells) rects) out) × (out ≡ tableArraysOf (linesFrom lengths columns text) (rectsOf (o .cells) rects) out)
+  pub refused : short out (lefts .count - 1) (tops .count - 1) (o .cells) (size .lines) (size .bytes) ≡ true → (refuse 12 0 ≡ tableSizesOf (linesFrom lengths columns text) (rectsOf (o .cells) rects) out) × (out ≡ tableArraysOf (linesFrom lengths columns text) (rectsOf (o .cells) rects) out)
   unfolding tableSizesOf tableArraysOf tableAnswerOf
   refused short = (rw (short-told lengths columns text glyphs offsets rects o t starts out, tests-told, short), rw (short-told lengths columns text glyphs offsets rects o t starts out, tests-told, short))
 
-  module _ (fits : tooShort out (lefts .count - 1) (tops .count - 1) (o .cells) (size .lines) (size .bytes) ≡ false) where
+  module _ (fits : short out (lefts .count - 1) (tops .count - 1) (o .cells) (size .lines) (size .bytes) ≡ false) where
     pub writable : Writable lengths columns text glyphs offsets rects o starts counts tops lefts out
     writable =
         let f0 = or-neither _ _ fits in

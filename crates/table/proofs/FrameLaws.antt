@@ -11,7 +11,7 @@ use Rattle.seq.proofs.Ranges.{range-mem}
 use Rattle.grid.specs.Values.{Line, Rect, Fragment}
 use Rattle.grid.specs.Slots.{gridOf, byteAt}
 use Rattle.grid.specs.Layout.{innerLines, cellRead, layoutOf}
-use Rattle.grid.specs.Cut.{cut, dropEmptyLast, tableCell}
+use Rattle.grid.specs.Cut.{dropEmptyLast, tableCell}
 use Rattle.grid.specs.Flat.{linesFrom}
 use Rattle.grid.specs.Arrays.{codeAt, rectsOf}
 use Rattle.grid.proofs.ByteLaws.{slot-in-line, border-climbs, bytes-rise}

@@ -7,21 +7,22 @@ use mathlib.Core.List.{List, map, map-map, flatMap}
 use native.Mathlib.Omega.{arith}
 use lib.Dec.{ltb}
 use lib.ListN.{length, length-map}
-use Rattle.seq.proofs.FlatMaps.{map-same, flatMap-same, flatMap-map, length-flatMap}
+use Rattle.seq.proofs.FlatMaps.{flatMap-same, flatMap-map, length-flatMap}
 use Rattle.grid.specs.Values.{Line, Rect, Row, TableCell}
 use Rattle.grid.specs.Slots.{Grid, gridOf, trimmedAt}
-use Rattle.grid.specs.Layout.{Between, between, columnLines, rowLines, sectionAt, rowsRead, cellRead, layoutOf}
+use Rattle.grid.specs.Layout.{columnLines, rowLines, rowsRead, cellRead, layoutOf}
 use Rattle.grid.specs.Cut.{tableCell, tableOf}
 use Rattle.grid.specs.Flat.{TableArrays, sectionCode, columnNumbers, tableCellNumbers, tableLines, tableSizes, tableArrays, joinText, linesFrom}
 use Rattle.grid.specs.Arrays.{rectsOf}
 use Rattle.grid.specs.TableCall.{tableShort}
 use Rattle.grid.specs.TableParts.{tableFrom}
 use Rattle.grid.proofs.SizeLaws.{columns-count, rows-count}
-use Rattle.entries.specs.Writing.{columnEntries, sectionFrom}
+use Rattle.entries.specs.Writing.{columnEntries}
 use Rattle.entries.specs.declared.Parts.{Parts}
-use Rattle.entries.proofs.AgreeLaws.{columns-agree, section-agrees, row-inside}
+use Rattle.entries.proofs.AgreeLaws.{columns-agree}
 use Rattle.pieces.specs.Text.{source, keptLines, allLines}
-use Rattle.table_entries.specs.Entries.{sectionEntries, tableEntry, tableEntries}
+use Rattle.table_rules.specs.Entries.{sectionEntries, tableEntries}
+use Rattle.table_rules.proofs.EntryLaws.{cellOf, cells-told, sections-told}
 use Rattle.reading.specs.Call.{TracedSheet}
 use Rattle.reading.specs.declared.Outcome.{Outcome}
 use Rattle.reading.proofs.SheetLaws.{tall, all-laid, PartsFound, headed, footed}
@@ -41,23 +42,12 @@ module _ (lengths columns text glyphs offsets rects : List ℕ) (o : Outcome) (t
   abbrev kept : Rect → List (List ℕ)
   kept r = keptLines (source lengths columns text starts offsets) r
 
-  abbrev cellOf : Rect → TableCell
-  cellOf r = tableCell lines (layoutOf lines g rs) (cellRead g rs r)
-
   lines-told : tableLines (tableFrom lines rs) ≡ allLines (source lengths columns text starts offsets) rs
   unfolding tableOf layoutOf
   lines-told =
       ap (flatMap (λ (c : TableCell). c .lines)) (map-map (tableCell lines (layoutOf lines g rs)) (cellRead g rs) rs)
-      ∙ flatMap-map (λ (c : TableCell). c .lines) cellOf rs
-      ∙ flatMap-same (λ r. cellOf r .lines) kept rs (λ r m. kept-told lengths columns text glyphs offsets rects o t starts m)
-
-  cells-told : flatMap tableCellNumbers (tableFrom lines rs .cells) ≡ tableEntries (λ r. length (kept r)) (rowLines g rs) (columnLines g rs) rs
-  unfolding tableOf layoutOf tableCell cellRead
-  cells-told =
-      ap (flatMap tableCellNumbers) (map-map (tableCell lines (layoutOf lines g rs)) (cellRead g rs) rs)
-      ∙ flatMap-map tableCellNumbers cellOf rs
-      ∙ flatMap-same (λ r. tableCellNumbers (cellOf r)) (tableEntry (λ r. length (kept r)) (rowLines g rs) (columnLines g rs)) rs
-      (λ r m. rw (kept-told lengths columns text glyphs offsets rects o t starts m))
+      ∙ flatMap-map (λ (c : TableCell). c .lines) (cellOf lines rs) rs
+      ∙ flatMap-same (λ r. cellOf lines rs r .lines) kept rs (λ r m. kept-told lengths columns text glyphs offsets rects o t starts m)
 
   cells-length : length (tableFrom lines rs .cells) ≡ length rs
   unfolding tableOf layoutOf
@@ -100,16 +90,6 @@ module _ (lengths columns text glyphs offsets rects : List ℕ) (o : Outcome) (t
       )
 
   module _ (p : Parts) (parts : PartsFound lengths columns text glyphs offsets rects o t p) where
-    sections-told : map sectionCode (tableFrom lines rs .sections) ≡ sectionEntries p (rowLines g rs)
-    unfolding tableOf layoutOf rowsRead
-    sections-told =
-        ap (map sectionCode) (map-map (λ (row : Row). row .section) (λ (b : Between). record { section = sectionAt g (b .from); top = b .from; bottom = b .to }) (between (rowLines g rs)))
-        ∙ map-map sectionCode (λ (b : Between). sectionAt g (b .from)) (between (rowLines g rs))
-        ∙ map-same (λ (b : Between). sectionCode (sectionAt g (b .from))) (λ (b : Between). sectionFrom p (b .from)) (between (rowLines g rs))
-        (λ b m.
-        sym (section-agrees g p (b .from) (headed lengths columns text glyphs offsets rects o t p parts) (footed lengths columns text glyphs offsets rects o t p parts)
-        (omega (arith, row-inside g rs b m, tall lengths columns text glyphs offsets rects o t, t .sheet .fewLines))))
-
     columns-told : flatMap columnNumbers (tableFrom lines rs .columns) ≡ columnEntries glyphs offsets (trimmedAt lines (p .head)) (p .head) (columnLines g rs)
     unfolding tableOf layoutOf
     columns-told = rw (headed lengths columns text glyphs offsets rects o t p parts) (sym (columns-agree lines g rs glyphs offsets (all-laid lengths columns text glyphs offsets rects o t)))
@@ -120,4 +100,10 @@ module _ (lengths columns text glyphs offsets rects : List ℕ) (o : Outcome) (t
         (joinText (allLines (source lengths columns text starts offsets) rs))
     unfolding tableArrays
     arrays-told =
-        rw (columns-told, sections-told, cells-told, lines-told)
+        rw (
+          columns-told,
+          sections-told lines rs p (headed lengths columns text glyphs offsets rects o t p parts) (footed lengths columns text glyphs offsets rects o t p parts)
+              (omega (arith, tall lengths columns text glyphs offsets rects o t, t .sheet .fewLines)),
+          cells-told lines rs (λ r. length (kept r)) (λ r m. ap length (kept-told lengths columns text glyphs offsets rects o t starts m)),
+          lines-told,
+        )

@@ -1,4 +1,4 @@
--- The answers and arrays of the table and cell calls, in the terms of the definitions.
+-- The answer and arrays of the table call, in the terms of the definitions.
 use Prim.Native.Nat.{ℕ}
 use mathlib.Core.List.{List}
 use lib.ListN.{length}
@@ -6,19 +6,13 @@ use Rattle.grid.specs.Answer.{Answer, accept, refuse}
 use Rattle.grid.specs.Flat.{TableSizes, TableArrays}
 use Rattle.grid.specs.TableCall.{TableSpace}
 use Rattle.table.specs.declared.TableAnswer.{TableAnswer}
-use Rattle.table.specs.declared.TableAnswer.the-variants as tables
-use Rattle.table.specs.declared.CellAnswer.{CellAnswer}
-use Rattle.table.specs.declared.CellAnswer.the-variants as cells
+use Rattle.table.specs.declared.TableAnswer.the-variants.{Accepted, Refused}
 
--- document 01's number, place and values for each case of the answers
+-- document 01's number, place and values for each case of the answer
 abbrev pub answerOf : TableAnswer → Answer TableSizes
-answerOf (tables.Accepted columns rows cells lines bytes) =
+answerOf (Accepted columns rows cells lines bytes) =
     accept (record { columns = columns; rows = rows; cells = cells; lines = lines; bytes = bytes })
-answerOf (tables.Refused number place) = refuse number place
-
-abbrev pub cellAnswerOf : CellAnswer → Answer ℕ
-cellAnswerOf (cells.Accepted lines) = accept lines
-cellAnswerOf (cells.Refused number place) = refuse number place
+answerOf (Refused number place) = refuse number place
 
 -- the arrays as lent
 abbrev pub space : List ℕ → List ℕ → TableSpace

@@ -1,15 +1,15 @@
 // From a drawing to its table, and to the cut lines of one cell (mod.rs: build_grid_table).
 use bounds::col_bounds;
 use bounds::row_bounds;
-use cell_cuts::write_cuts;
+use cell_answer::CellAnswer;
+use cell_answer::finish_cell;
 use entries::Bounds;
-use entries::Parts;
 use line_entries::write_columns;
-use pieces::line_starts;
 use pieces::prepare;
 use reading::Outcome;
 use reading::read;
 use reading::trimmed_line;
+use room::lacks_room;
 use sections::find_parts;
 use table_entries::write_sections;
 use table_entries::write_table_cells;
@@ -20,13 +20,12 @@ ghost use lib.ListN.{length};
 ghost use Rattle.grid.specs.Flat.{linesFrom, tableArrays};
 ghost use Rattle.grid.specs.Limits.{maxLines, maxCells};
 ghost use Rattle.grid.specs.TableCall.{tableOver, tableAnswer, tableAfterwards, cellAnswer, cellAfterwards};
-ghost use Rattle.grid.specs.TableParts.{tableFrom, tableSizesOf, tableArraysOf, cutsCountOf, cutsArrayOf};
+ghost use Rattle.grid.specs.TableParts.{tableFrom, tableSizesOf, tableArraysOf};
 ghost use Rattle.grid.specs.Arrays.{rectsOf};
 ghost use Rattle.reading.specs.Call.{spaces, drawing, TracedSheet};
-ghost use Rattle.pieces.specs.Text.{source};
-ghost use Rattle.cell_cuts.specs.Cuts.{cutsOf};
-ghost use Rattle.table.specs.Needs.{rectIn, Writable, Cutting};
-ghost use Rattle.table.specs.Call.{answerOf, cellAnswerOf, space, arrays};
+ghost use Rattle.table.specs.Needs.{Writable};
+ghost use Rattle.cell_answer.specs.Answer.{cellAnswerOf};
+ghost use Rattle.table.specs.Call.{answerOf, space, arrays};
 
 const MAX_LINES: usize = 128;
 
@@ -45,12 +44,6 @@ pub enum TableAnswer {
         number: usize,
         place: usize,
     },
-}
-
-// How many cut lines were written; or a refusal.
-pub enum CellAnswer {
-    Accepted(usize),
-    Refused { number: usize, place: usize },
 }
 
 // Writes the five arrays.
@@ -127,12 +120,18 @@ fn finish(
     let size = prepare(lengths, columns, text, offsets, rects, n, starts, counts);
     let down = tops.count - 1;
     let across = lefts.count - 1;
-    if (cols.len() < 2 * across)
-        | (sections.len() < down)
-        | (cells.len() < 5 * n)
-        | (out_lengths.len() < size.lines)
-        | (out_text.len() < size.bytes)
-    {
+    let short = lacks_room(
+        cols.len(),
+        sections.len(),
+        cells.len(),
+        out_lengths.len(),
+        out_text.len(),
+        across,
+        down,
+        n,
+        size,
+    );
+    if short {
         return TableAnswer::Refused {
             number: 12,
             place: 0,
@@ -231,48 +230,6 @@ pub fn table(
     )
 }
 
-// From the rectangle of cell k to its cut lines. `starts` is working space.
-fn finish_cell(
-    lengths: &[u16],
-    columns: &[u16],
-    text: &[u8],
-    offsets: &[u16],
-    rects: &[u8],
-    starts: &mut [u16],
-    k: usize,
-    out: &mut [u16],
-) -> CellAnswer
-    requires { ⌜ Cutting (now lengths) (now columns) (now text) (now offsets) (now rects) (now starts) k ⌝ }
-    ensures { λ r. ⌜ cellAnswerOf r ≡ cutsCountOf (cutsOf (source (now (lengths .entry)) (now (columns .entry)) (now (text .entry)) (now (starts .entry)) (now (offsets .entry))) (rectIn (now (rects .entry)) k)) (now (out .entry)) ⌝ }
-    ensures { λ _. ⌜ now (out .exit) ≡ cutsArrayOf (cutsOf (source (now (lengths .entry)) (now (columns .entry)) (now (text .entry)) (now (starts .entry)) (now (offsets .entry))) (rectIn (now (rects .entry)) k)) (now (out .entry)) ⌝ }
-{
-    let top = rects[4 * k] as usize;
-    let left = rects[4 * k + 1] as usize;
-    let bottom = rects[4 * k + 2] as usize;
-    let right = rects[4 * k + 3] as usize;
-    let count = bottom - top - 1;
-    if out.len() < 4 * count {
-        return CellAnswer::Refused {
-            number: 12,
-            place: 0,
-        };
-    }
-    line_starts(lengths, starts);
-    write_cuts(
-        lengths,
-        columns,
-        text,
-        starts,
-        offsets,
-        top,
-        left,
-        bottom,
-        right,
-        out,
-    );
-    CellAnswer::Accepted(count)
-}
-
 // The cut lines of cell k of a drawing, blank ones too: for each inner line its index, where its cut
 // starts and ends in it, and its column. Working space: glyphs, offsets, down and right of 16,384
 // entries each, rects of 4,096, starts of 128.
@@ -318,11 +275,15 @@ pub fn cell(
             place: outcome.place,
         };
     }
-    if outcome.cells <= k {
-        return CellAnswer::Refused {
-            number: 13,
-            place: 0,
-        };
-    }
-    finish_cell(lengths, columns, text, offsets, rects, starts, k, out)
+    finish_cell(
+        lengths,
+        columns,
+        text,
+        offsets,
+        rects,
+        outcome.cells,
+        starts,
+        k,
+        out,
+    )
 }

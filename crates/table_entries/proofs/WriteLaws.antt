@@ -24,7 +24,7 @@ use Rattle.entries.proofs.WriteLaws.{nobody, length-pairs, pair-at, AllNumbered
 use Rattle.pieces.specs.Text.{CountedBy}
 use Rattle.pieces.proofs.LineLaws.{flatMap-ones}
 use Rattle.pieces.proofs.TotalLaws.{counted-here}
-use Rattle.table_entries.specs.Entries.{sectionEntries, tableEntry, tableEntries}
+use Rattle.table_rules.specs.Entries.{sectionEntries, tableEntry, tableEntries}
 
 -- ---- sections: those of the first k rows
 pub record SectionsWritten (p : Parts) (tops : Bounds) (buffer : List ℕ) (k : ℕ) (out : List ℕ) : Type 0 where

@@ -12,7 +12,7 @@ ghost use Rattle.grid.specs.Values.{Rect};
 ghost use Rattle.grid.specs.Arrays.{rectsOf};
 ghost use Rattle.entries.specs.Writing.{linesHeld, Rising, Numbered};
 ghost use Rattle.pieces.specs.Text.{CountedBy};
-ghost use Rattle.table_entries.specs.Entries.{sectionEntries, tableEntries};
+ghost use Rattle.table_rules.specs.Entries.{sectionEntries, tableEntries};
 
 // Each row's section.
 pub fn write_sections(tops: Bounds, parts: Parts, out: &mut [u8])

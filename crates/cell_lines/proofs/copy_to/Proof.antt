@@ -1,4 +1,4 @@
--- `table_text::copy_to` meets its contract. The invariant: the first i bytes are copied.
+-- `cell_lines::copy_to` meets its contract. The invariant: the first i bytes are copied.
 -- Assumes nothing.
 use Prim.Native.Nat.{_-_, _≤_}
 use mathlib.Core.Path.{_≡_}
@@ -6,9 +6,9 @@ use native.Mathlib.Omega.{arith}
 use lib.ListN.{length}
 use lib.Seq.{paste, paste-zero}
 use borrow.Author.Needs.{needs}
-use Rattle.table_text.proofs.WriteLaws.{copy-more, copied}
-use Rattle.table_text.proofs.copy_to.Statement.{statement}
-use Rattle.table_text.proofs.copy_to.Tie as tie
+use Rattle.cell_lines.proofs.WriteLaws.{copy-more, copied}
+use Rattle.cell_lines.proofs.copy_to.Statement.{statement}
+use Rattle.cell_lines.proofs.copy_to.Tie as tie
 
 abbrev Inv-loop : tie.InvT-loop
 Inv-loop from at out₀ i₀ out i =

@@ -1,12 +1,12 @@
--- `table_text::write_lines` meets its contract. The invariant: the first i lines are written, up to byte `end`.
+-- `cell_lines::write_lines` meets its contract. The invariant: the first i lines are written, up to byte `end`.
 -- Assumes nothing.
 use Prim.Native.Nat.{_-_, _≤_}
 use native.Mathlib.Omega.{arith}
 use borrow.Author.Needs.{needs}
 use Rattle.pieces.specs.Text.{source}
-use Rattle.table_text.proofs.WriteLaws.{line-cuttable, first-line-fits, line-fits, length-fits, LinesWritten, no-line, line-room, end-fits, line-next, lines-end, lengths-done, lines-done}
-use Rattle.table_text.proofs.write_lines.Statement.{statement}
-use Rattle.table_text.proofs.write_lines.Tie as tie
+use Rattle.cell_lines.proofs.WriteLaws.{line-cuttable, first-line-fits, line-fits, length-fits, LinesWritten, no-line, line-room, end-fits, line-next, lines-end, lengths-done, lines-done}
+use Rattle.cell_lines.proofs.write_lines.Statement.{statement}
+use Rattle.cell_lines.proofs.write_lines.Tie as tie
 
 abbrev Inv-loop : tie.InvT-loop
 Inv-loop lengths columns text starts offsets top left right count at byte out-lengths₀ out-text₀ end₀ i₀ out-lengths out-text end i =

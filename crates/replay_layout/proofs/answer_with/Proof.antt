@@ -13,7 +13,7 @@ part-glyphs-start : tie.Need-part-glyphs-start
 part-glyphs-start c = search needs
 
 part-glyphs-end : tie.Need-part-glyphs-end
-part-glyphs-end c = search needs
+part-glyphs-end c = c .before .before .before .pre .0
 
 sub-layout-2 : tie.Need-sub-layout-2
 sub-layout-2 c = search needs
@@ -22,7 +22,7 @@ part-offsets-start : tie.Need-part-offsets-start
 part-offsets-start c = search needs
 
 part-offsets-end : tie.Need-part-offsets-end
-part-offsets-end c = search needs
+part-offsets-end c = c .before .before .before .before .pre .1
 
 sub-layout-3 : tie.Need-sub-layout-3
 sub-layout-3 c = search needs
@@ -31,7 +31,7 @@ part-down-start : tie.Need-part-down-start
 part-down-start c = search needs
 
 part-down-end : tie.Need-part-down-end
-part-down-end c = search needs
+part-down-end c = c .before .before .before .before .before .pre .2
 
 sub-layout-4 : tie.Need-sub-layout-4
 sub-layout-4 c = search needs
@@ -40,7 +40,7 @@ part-right-start : tie.Need-part-right-start
 part-right-start c = search needs
 
 part-right-end : tie.Need-part-right-end
-part-right-end c = search needs
+part-right-end c = c .before .before .before .before .before .before .pre .3
 
 sub-layout-5 : tie.Need-sub-layout-5
 sub-layout-5 c = search needs
@@ -49,7 +49,7 @@ part-rects-start : tie.Need-part-rects-start
 part-rects-start c = search needs
 
 part-rects-end : tie.Need-part-rects-end
-part-rects-end c = search needs
+part-rects-end c = c .before .before .before .before .before .before .before .pre .4
 
 sub-layout-6 : tie.Need-sub-layout-6
 sub-layout-6 c = search needs
@@ -58,7 +58,7 @@ part-cols-start : tie.Need-part-cols-start
 part-cols-start c = search needs
 
 part-cols-end : tie.Need-part-cols-end
-part-cols-end c = search needs
+part-cols-end c = c .before .before .before .before .before .before .before .before .pre .5
 
 sub-layout-7 : tie.Need-sub-layout-7
 sub-layout-7 c = search needs
@@ -67,7 +67,7 @@ part-rows-start : tie.Need-part-rows-start
 part-rows-start c = search needs
 
 part-rows-end : tie.Need-part-rows-end
-part-rows-end c = search needs
+part-rows-end c = c .before .before .before .before .before .before .before .before .before .pre .6
 
 sub-layout-8 : tie.Need-sub-layout-8
 sub-layout-8 c = search needs
@@ -76,7 +76,7 @@ part-cells-start : tie.Need-part-cells-start
 part-cells-start c = search needs
 
 part-cells-end : tie.Need-part-cells-end
-part-cells-end c = search needs
+part-cells-end c = c .before .before .before .before .before .before .before .before .before .before .pre .7
 
 sub-layout-9 : tie.Need-sub-layout-9
 sub-layout-9 c = search needs
@@ -85,7 +85,7 @@ part-ranges-start : tie.Need-part-ranges-start
 part-ranges-start c = search needs
 
 part-ranges-end : tie.Need-part-ranges-end
-part-ranges-end c = search needs
+part-ranges-end c = c .before .before .before .before .before .before .before .before .before .before .before .pre .8
 
 layout-requires : tie.Need-layout-requires
 layout-requires c κs = search needs

@@ -13,7 +13,7 @@ part-glyphs-start : tie.Need-part-glyphs-start
 part-glyphs-start c = search needs
 
 part-glyphs-end : tie.Need-part-glyphs-end
-part-glyphs-end c = search needs
+part-glyphs-end c = c .before .before .before .pre .0 .0
 
 sub-table-2 : tie.Need-sub-table-2
 sub-table-2 c = search needs
@@ -22,7 +22,7 @@ part-offsets-start : tie.Need-part-offsets-start
 part-offsets-start c = search needs
 
 part-offsets-end : tie.Need-part-offsets-end
-part-offsets-end c = search needs
+part-offsets-end c = c .before .before .before .before .pre .0 .1
 
 sub-table-3 : tie.Need-sub-table-3
 sub-table-3 c = search needs
@@ -31,7 +31,7 @@ part-down-start : tie.Need-part-down-start
 part-down-start c = search needs
 
 part-down-end : tie.Need-part-down-end
-part-down-end c = search needs
+part-down-end c = c .before .before .before .before .before .pre .0 .2
 
 sub-table-4 : tie.Need-sub-table-4
 sub-table-4 c = search needs
@@ -40,7 +40,7 @@ part-right-start : tie.Need-part-right-start
 part-right-start c = search needs
 
 part-right-end : tie.Need-part-right-end
-part-right-end c = search needs
+part-right-end c = c .before .before .before .before .before .before .pre .0 .3
 
 sub-table-5 : tie.Need-sub-table-5
 sub-table-5 c = search needs
@@ -49,7 +49,7 @@ part-rects-start : tie.Need-part-rects-start
 part-rects-start c = search needs
 
 part-rects-end : tie.Need-part-rects-end
-part-rects-end c = search needs
+part-rects-end c = c .before .before .before .before .before .before .before .pre .0 .4
 
 sub-table-6 : tie.Need-sub-table-6
 sub-table-6 c = search needs
@@ -58,7 +58,7 @@ part-starts-start : tie.Need-part-starts-start
 part-starts-start c = search needs
 
 part-starts-end : tie.Need-part-starts-end
-part-starts-end c = search needs
+part-starts-end c = c .before .before .before .before .before .before .before .before .pre .0 .5
 
 sub-table-7 : tie.Need-sub-table-7
 sub-table-7 c = search needs
@@ -67,7 +67,7 @@ part-counts-start : tie.Need-part-counts-start
 part-counts-start c = search needs
 
 part-counts-end : tie.Need-part-counts-end
-part-counts-end c = search needs
+part-counts-end c = c .before .before .before .before .before .before .before .before .before .pre .0 .6
 
 sub-table-8 : tie.Need-sub-table-8
 sub-table-8 c = search needs
@@ -76,7 +76,7 @@ part-cols-start : tie.Need-part-cols-start
 part-cols-start c = search needs
 
 part-cols-end : tie.Need-part-cols-end
-part-cols-end c = search needs
+part-cols-end c = c .before .before .before .before .before .before .before .before .before .before .pre .1 .0
 
 sub-table-9 : tie.Need-sub-table-9
 sub-table-9 c = search needs
@@ -85,7 +85,7 @@ part-sections-start : tie.Need-part-sections-start
 part-sections-start c = search needs
 
 part-sections-end : tie.Need-part-sections-end
-part-sections-end c = search needs
+part-sections-end c = c .before .before .before .before .before .before .before .before .before .before .before .pre .1 .1
 
 sub-table-10 : tie.Need-sub-table-10
 sub-table-10 c = search needs
@@ -94,7 +94,7 @@ part-cells-start : tie.Need-part-cells-start
 part-cells-start c = search needs
 
 part-cells-end : tie.Need-part-cells-end
-part-cells-end c = search needs
+part-cells-end c = c .before .before .before .before .before .before .before .before .before .before .before .before .pre .1 .2
 
 sub-table-11 : tie.Need-sub-table-11
 sub-table-11 c = search needs
@@ -103,7 +103,7 @@ part-out-lengths-start : tie.Need-part-out-lengths-start
 part-out-lengths-start c = search needs
 
 part-out-lengths-end : tie.Need-part-out-lengths-end
-part-out-lengths-end c = search needs
+part-out-lengths-end c = c .before .before .before .before .before .before .before .before .before .before .before .before .before .pre .1 .3
 
 sub-table-12 : tie.Need-sub-table-12
 sub-table-12 c = search needs
@@ -112,7 +112,7 @@ part-out-text-start : tie.Need-part-out-text-start
 part-out-text-start c = search needs
 
 part-out-text-end : tie.Need-part-out-text-end
-part-out-text-end c = search needs
+part-out-text-end c = c .before .before .before .before .before .before .before .before .before .before .before .before .before .before .pre .1 .4
 
 table-requires : tie.Need-table-requires
 table-requires c κs = search needs

@@ -16,7 +16,6 @@ use Rattle.grid.specs.Flat.{FlatDrawing, drawingContradicts, splitText, linesOf
 use Rattle.grid.specs.LayoutCall.{LayoutSpace, LayoutSizes, LayoutArrays, spaceShort, rowNumbers, cellNumbers, layoutArrays, layoutSizes, layoutShort, layoutOver, layoutAccepts, layoutAnswer, layoutAfterwards}
 use Rattle.grid.specs.Listing.{listed}
 use Rattle.grid.proofs.ReadLaws.{read-cover}
-use Rattle.reading.specs.Call.{spaces}
 use Rattle.layout.specs.Call.{answerOf, arrays}
 use Rattle.layout.specs.declared.LayoutAnswer.{LayoutAnswer}
 use Rattle.layout.specs.declared.LayoutAnswer.the-variants.{Accepted, Refused}
@@ -24,7 +23,7 @@ use Rattle.printing.specs.Printing.{Prints, refusedLine}
 use Rattle.printing.proofs.PutLaws.{prints-as}
 use Rattle.layout_printing.specs.Printing.{innerLines, tablePrinted}
 use Rattle.layout_printing.proofs.TableLaws.{columns-back, rows-back, cells-back, inner-cells}
-use Rattle.input_lines.proofs.SheetLaws.{zeroes, length-zeroes, sheetOf, sheet-agrees, sheet-lines, lines-counted, space-enough}
+use Rattle.input_lines.proofs.SheetLaws.{zeroes, length-zeroes, sheetOf, sheet-agrees, sheet-lines, lines-counted, freshSpace, fresh-enough}
 use Rattle.layout_listing.specs.Listed.{listedLines, Told}
 use Rattle.layout_listing.proofs.SizeLaws.{Laid, laid, layout-small, Rooms, layout-fits}
 
@@ -95,14 +94,6 @@ module _ (w : LayoutSpace) (d : FlatDrawing) (out : LayoutArrays) (agree : drawi
   told r after e f = told-by (readLayout (linesOf d)) r after refl (e ∙ answer-all) (f ∙ after-all)
 
 -- The lines that are handed in, with fresh working space
-
-abbrev freshSpace : LayoutSpace
-freshSpace = spaces (zeroes 16384) (zeroes 16384) (zeroes 16384) (zeroes 16384) (zeroes 4096)
-
-fresh-enough : spaceShort freshSpace ≡ false
-fresh-enough =
-    space-enough (zeroes 16384) (zeroes 16384) (zeroes 16384) (zeroes 16384) (zeroes 4096)
-    (length-zeroes 16384, length-zeroes 16384, length-zeroes 16384, length-zeroes 16384, length-zeroes 4096)
 
 module _ (lengths text cols rows cells : List ℕ) (few : length lengths ≤ 128) (whole : sum lengths ≡ length text) where
   as-told : (after : LayoutArrays) (r : LayoutAnswer) → ToldOf (linesOf (sheetOf lengths text)) after (readLayout (linesOf (sheetOf lengths text))) r

@@ -21,13 +21,12 @@ use Rattle.grid.specs.LayoutCall.{LayoutSpace, spaceShort}
 use Rattle.grid.specs.TableCall.{TableSpace, startsShort, tableSpaceShort, tableShort, tableOver, tableAccepts, tableAnswer, tableAfterwards}
 use Rattle.grid.specs.CellListing.{cellListed, cellsListed}
 use Rattle.grid.proofs.FlatTableLaws.{table-again}
-use Rattle.reading.specs.Call.{spaces}
 use Rattle.table.specs.Call.{answerOf, space, arrays}
 use Rattle.table.specs.declared.TableAnswer.{TableAnswer}
 use Rattle.table.specs.declared.TableAnswer.the-variants.{Accepted, Refused}
 use Rattle.printing.specs.Printing.{Prints, refusedLine}
 use Rattle.printing.proofs.PutLaws.{prints-as}
-use Rattle.input_lines.proofs.SheetLaws.{zeroes, length-zeroes, sheetOf, sheet-agrees, sheet-lines, space-enough}
+use Rattle.input_lines.proofs.SheetLaws.{zeroes, length-zeroes, sheetOf, sheet-agrees, sheet-lines, freshSpace, fresh-enough}
 use Rattle.cell_printing.specs.Printing.{cellsOf, tableListed}
 use Rattle.table_listing.specs.Listed.{linesListed, Told}
 use Rattle.table_listing.proofs.FitLaws.{read-small, Rooms, small-fits}
@@ -118,14 +117,6 @@ module _ (w : LayoutSpace) (s : TableSpace) (d : FlatDrawing) (out : TableArrays
 
 -- The lines that are handed in, with fresh working space
 
-abbrev freshSpace : LayoutSpace
-freshSpace = spaces (zeroes 16384) (zeroes 16384) (zeroes 16384) (zeroes 16384) (zeroes 4096)
-
-fresh-enough : spaceShort freshSpace ≡ false
-fresh-enough =
-    space-enough (zeroes 16384) (zeroes 16384) (zeroes 16384) (zeroes 16384) (zeroes 4096)
-    (length-zeroes 16384, length-zeroes 16384, length-zeroes 16384, length-zeroes 16384, length-zeroes 4096)
-
 abbrev freshTable : TableSpace
 freshTable = space (zeroes 128) (zeroes 1024)
 
@@ -158,10 +149,6 @@ module _ (lengths text cells keptLengths keptText : List ℕ) (few : length leng
       (arrays cols′ sections′ cells′ keptLengths′ keptText′) e f)
 
 -- What is printed of an answer
-
--- room for every table is room for a refusal
-pub room-enough : (n : ℕ) → 196608 ≤ n → 131072 ≤ n
-room-enough n h = omega arith
 
 module _ (lengths text cells keptLengths keptText : List ℕ) (r : TableAnswer) where
   module _ (across tall count kept weight : ℕ) (e : r ≡ Accepted across tall count kept weight) (h : Told lengths text cells keptLengths keptText r) where

@@ -43,7 +43,7 @@ drop-split (suc n) (m ∷ ns) text = drop-split n ns (drop m text) ∙ ap (split
 
 abbrev oneCell : List ℕ → List ℕ → List ℕ → ℕ → List ℕ
 oneCell cells lengths text more =
-    cellPrinted (getD cells 0 0) (getD cells 1 0) (getD cells 2 0) (getD cells 3 0) more ++ flatMap textLine (splitText (take more lengths) text)
+    cellPrinted cells 0 more ++ flatMap textLine (splitText (take more lengths) text)
 
 cells-step : (k : ℕ) (cells lengths text : List ℕ) (more : ℕ) → more ≡ getD cells 4 0 - (getD cells 4 0 - length lengths)
     → cellsOf (suc k) cells lengths text ≡ oneCell cells lengths text more ++ cellsOf k (drop 5 cells) (drop more lengths) (drop (sum (take more lengths)) text)
@@ -90,13 +90,11 @@ module _ (count : ℕ) (cells lengths text d : List ℕ) (at : ℕ) where
     used-fits more w q =
         fits-under w64 (used + w .bytes) 65536 (omega (arith, q .within, ap length (part-to-end text used), length-drop used text, t .usedIn, t .small)) tt
 
-    pub cells-next : {f g : List ℕ} {mid : ℕ} (row column colspan rowspan n more : ℕ) (w : Written) → i < count
-        → (n ≡ getD cells (5 * i + 4) 0) × (n < 65536) → more ≡ n - (n - (length lengths - line)) → (row ≡ getD cells (5 * i) 0) × (row < 65536)
-        → (column ≡ getD cells (5 * i + 1) 0) × (column < 65536) → (colspan ≡ getD cells (5 * i + 2) 0) × (colspan < 65536)
-        → (rowspan ≡ getD cells (5 * i + 3) 0) × (rowspan < 65536) → Put 110 e f end mid (cellPrinted row column colspan rowspan more)
+    pub cells-next : {f g : List ℕ} {mid : ℕ} (n more : ℕ) (w : Written) → i < count → (n ≡ getD cells (5 * i + 4) 0) × (n < 65536)
+        → more ≡ n - (n - (length lengths - line)) → Put 110 e f end mid (cellPrinted cells i more)
         → TextPut (take (line + more - line) (drop line lengths)) (take (length text - used) (drop used text)) f g mid w
         → Cells g (i + 1) (line + more) (used + w .bytes) (w .at)
-    cells-next row column colspan rowspan n more w h counted least a b x y p q =
+    cells-next n more w h counted least p q =
         let cs = drop (5 * i) cells in
         let ls = drop line lengths in
         let ts = drop used text in
@@ -112,10 +110,10 @@ module _ (count : ℕ) (cells lengths text d : List ℕ) (at : ℕ) where
         let cellsOn : drop 5 cs ≡ drop (5 * (i + 1)) cells = drop-drop 5 (5 * i) cells ∙ rw five in
         let linesOn : drop more ls ≡ drop (line + more) lengths = drop-drop more line lengths in
         let textOn : drop (sum (take more ls)) ts ≡ drop (used + w .bytes) text = sym (wrote .left) ∙ drop-drop (w .bytes) used text in
-        let here : oneCell cs ls ts more ≡ cellPrinted row column colspan rowspan more ++ flatMap textLine (splitText (take more ls) ts) =
-        rw (entry 0, entry 1, entry 2, entry 3, zeroth, a .0, b .0, x .0, y .0)
+        let here : oneCell cs ls ts more ≡ cellPrinted cells i more ++ flatMap textLine (splitText (take more ls) ts) =
+        rw (entry 0, entry 1, entry 2, entry 3, zeroth)
         in
-        let all = t .done ++ (cellPrinted row column colspan rowspan more ++ flatMap textLine (splitText (take more ls) ts)) in
+        let all = t .done ++ (cellPrinted cells i more ++ flatMap textLine (splitText (take more ls) ts)) in
         let size : length (take more ls) ≡ more = length-take-le more ls (omega arith) in
         record {
           few = omega arith;

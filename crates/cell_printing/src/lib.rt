@@ -73,15 +73,7 @@ fn cell_lines(
     let mut end = at;
     while i < count {
         let more = least(entry(cells, 5 * i + 4), lengths.len() - line);
-        end = cell_line(
-            entry(cells, 5 * i),
-            entry(cells, 5 * i + 1),
-            entry(cells, 5 * i + 2),
-            entry(cells, 5 * i + 3),
-            more,
-            out,
-            end,
-        );
+        end = cell_line(cells, i, more, out, end);
         let stop = line + more;
         let written = text_lines(&lengths[line..stop], &text[used..], out, end);
         end = written.at;

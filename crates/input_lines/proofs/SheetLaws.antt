@@ -14,7 +14,7 @@ use Rattle.grid.specs.Answer.{refuse}
 use Rattle.grid.specs.Values.{Line}
 use Rattle.grid.specs.Read.{drawingTooLarge, readRects, readLayout}
 use Rattle.grid.specs.Flat.{FlatDrawing, drawingContradicts, splitText, linesWith, linesOf}
-use Rattle.grid.specs.LayoutCall.{spaceShort}
+use Rattle.grid.specs.LayoutCall.{LayoutSpace, spaceShort}
 use Rattle.grid.proofs.FlatLaws.{length-lines}
 use Rattle.reading.specs.Call.{drawing, spaces}
 use Rattle.input_lines.specs.Splitting.{Held, Splits}
@@ -77,19 +77,17 @@ module _ (lengths text : List ℕ) where
   unfolding linesOf
   lines-counted = length-lines lengths (take (length lengths - 0) (zeroes 128)) text
 
--- The working space
+-- Fresh working space, as a call names it
 
-pub space-enough : (glyphs offsets down right rects : List ℕ)
-    → (length glyphs ≡ 16384) × (length offsets ≡ 16384) × (length down ≡ 16384) × (length right ≡ 16384) × (length rects ≡ 4096)
-    → spaceShort (spaces glyphs offsets down right rects) ≡ false
+abbrev pub freshSpace : LayoutSpace
+freshSpace = spaces (zeroes 16384) (zeroes 16384) (zeroes 16384) (zeroes 16384) (zeroes 4096)
+
+pub fresh-enough : spaceShort freshSpace ≡ false
 unfolding spaceShort
-space-enough glyphs offsets down right rects spaced =
+fresh-enough =
     rw (
-      le-ltb (length glyphs) 16384 (omega (arith, spaced .0)),
-      le-ltb (length offsets) 16384 (omega (arith, spaced .1)),
-      le-ltb (length down) 16384 (omega (arith, spaced .2)),
-      le-ltb (length right) 16384 (omega (arith, spaced .3)),
-      le-ltb (length rects) 4096 (omega (arith, spaced .4)),
+      le-ltb (length (zeroes 16384)) 16384 (omega (arith, length-zeroes 16384)),
+      le-ltb (length (zeroes 4096)) 4096 (omega (arith, length-zeroes 4096)),
     )
 
 -- Input that passes a limit

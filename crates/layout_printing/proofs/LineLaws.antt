@@ -148,9 +148,7 @@ rows-next i array =
     rw (add-one i, rows-snoc i array, numbered-snoc rowLine 0 (rowsOfArray i array) (rowAt i array), at)
 
 abbrev cellAt : ℕ → List ℕ → List ℕ → List ℕ
-cellAt i rows cells =
-    cellPrinted (getD cells (5 * i) 0) (getD cells (5 * i + 1) 0) (getD cells (5 * i + 2) 0) (getD cells (5 * i + 3) 0)
-    (innerLines rows (getD cells (5 * i) 0) (getD cells (5 * i + 3) 0))
+cellAt i rows cells = cellPrinted cells i (innerLines rows (getD cells (5 * i) 0) (getD cells (5 * i + 3) 0))
 
 cells-snoc : (n : ℕ) (rows cells : List ℕ) → cellsPrinted (suc n) rows cells ≡ cellsPrinted n rows cells ++ cellAt n rows cells
 unfolding cellsPrinted
@@ -179,13 +177,11 @@ module _ {d e f : List ℕ} {at end r : ℕ} where
       let line : rowLine i (rowOf section top bottom) ≡ rowLine i (rowAt i array) = rw (s .0, t .0, b .0) in
       put-most (put-as (put-then p (put-as q line)) (sym (rows-next i array))) (omega arith)
 
-  pub cells-put : (rows cells : List ℕ) (i row column colspan rowspan inner : ℕ) → (row ≡ getD cells (5 * i) 0) × (row < 65536)
-      → (column ≡ getD cells (5 * i + 1) 0) × (column < 65536) → (colspan ≡ getD cells (5 * i + 2) 0) × (colspan < 65536)
-      → (rowspan ≡ getD cells (5 * i + 3) 0) × (rowspan < 65536) → inner ≡ innerLines rows row rowspan
-      → Put (110 * i) d e at end (cellsPrinted i rows cells) → Put 110 e f end r (cellPrinted row column colspan rowspan inner)
+  pub cells-put : (rows cells : List ℕ) (i row rowspan inner : ℕ) → (row ≡ getD cells (5 * i) 0) × (row < 65536) → (rowspan ≡ getD cells (5 * i + 3) 0) × (rowspan < 65536) → inner ≡ innerLines rows row rowspan
+      → Put (110 * i) d e at end (cellsPrinted i rows cells) → Put 110 e f end r (cellPrinted cells i inner)
       → Put (110 * (i + 1)) d f at r (cellsPrinted (i + 1) rows cells)
-  cells-put rows cells i row column colspan rowspan inner a b x y z p q =
-      let line : cellPrinted row column colspan rowspan inner ≡ cellAt i rows cells = rw (z, a .0, b .0, x .0, y .0) in
+  cells-put rows cells i row rowspan inner a y z p q =
+      let line : cellPrinted cells i inner ≡ cellAt i rows cells = rw (z, a .0, y .0) in
       let whole : cellsPrinted i rows cells ++ cellAt i rows cells ≡ cellsPrinted (i + 1) rows cells = rw (add-one i) (sym (cells-snoc i rows cells)) in
       put-most (put-as (put-then p (put-as q line)) whole) (omega arith)
 

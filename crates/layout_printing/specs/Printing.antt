@@ -31,8 +31,7 @@ gridPrinted width height across down count =
 unfoldable pub cellsPrinted : ℕ → List ℕ → List ℕ → List ℕ
 cellsPrinted zero rows array = []
 cellsPrinted (suc n) rows array =
-    cellPrinted (getD array 0 0) (getD array 1 0) (getD array 2 0) (getD array 3 0) (innerLines rows (getD array 0 0) (getD array 3 0))
-    ++ cellsPrinted n rows (drop 5 array)
+    cellPrinted array 0 (innerLines rows (getD array 0 0) (getD array 3 0)) ++ cellsPrinted n rows (drop 5 array)
 
 -- the listing of an accepted layout, from the sizes and the entries of columns, rows and cells
 unfoldable pub tablePrinted : ℕ → ℕ → ℕ → ℕ → ℕ → List ℕ → List ℕ → List ℕ → List ℕ

@@ -135,15 +135,7 @@ fn cell_lines(rows: &[u16], cells: &[u16], count: usize, out: &mut [u8], at: usi
         let row = entry(cells, 5 * i);
         let rowspan = entry(cells, 5 * i + 3);
         let inner = inner_lines(rows, row, rowspan);
-        end = cell_line(
-            row,
-            entry(cells, 5 * i + 1),
-            entry(cells, 5 * i + 2),
-            rowspan,
-            inner,
-            out,
-            end,
-        );
+        end = cell_line(cells, i, inner, out, end);
         i += 1;
     }
     end

@@ -1,8 +1,8 @@
 -- What the functions that print write.
-use Prim.Native.Nat.{ℕ, _+_, _≤_}
+use Prim.Native.Nat.{ℕ, _+_, _*_, _≤_}
 use mathlib.Core.Path.{_≡_}
 use mathlib.Core.List.{List, [], _∷_, _++_}
-use lib.ListN.{length, take}
+use lib.ListN.{length, take, getD}
 use Rattle.seq.specs.Ascii.{ascii}
 use Rattle.seq.specs.Decimal.{decimal}
 use Rattle.text.specs.Characters.{space}
@@ -25,9 +25,11 @@ unfoldable pub spaced : List ℕ → List ℕ
 spaced [] = []
 spaced (n ∷ ns) = space ∷ decimal n ++ spaced ns
 
-abbrev pub cellPrinted : ℕ → ℕ → ℕ → ℕ → ℕ → List ℕ
-cellPrinted row column colspan rowspan inner =
-    printed (ascii "cell" ∷ decimal row ∷ decimal column ∷ decimal colspan ∷ decimal rowspan ∷ decimal inner ∷ [])
+-- cell i of an array of cells, and its number of lines
+abbrev pub cellPrinted : List ℕ → ℕ → ℕ → List ℕ
+cellPrinted cells i lines =
+    printed
+    (ascii "cell" ∷ decimal (getD cells (5 * i) 0) ∷ decimal (getD cells (5 * i + 1) 0) ∷ decimal (getD cells (5 * i + 2) 0) ∷ decimal (getD cells (5 * i + 3) 0) ∷ decimal lines ∷ [])
 
 abbrev pub refusedLine : ℕ → ℕ → List ℕ
 refusedLine number place = printed (ascii "refused" ∷ decimal number ∷ decimal place ∷ [])

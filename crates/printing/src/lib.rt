@@ -90,19 +90,18 @@ pub fn entry(array: &[u16], i: usize) -> usize
     if i < array.len() { wide(array[i]) } else { 0 }
 }
 
-pub fn cell_line(
-    row: usize,
-    column: usize,
-    colspan: usize,
-    rowspan: usize,
-    inner: usize,
-    out: &mut [u8],
-    at: usize,
-) -> usize
-    requires { ⌜ at + 110 ≤ length (now out) ⌝ }
-    ensures { λ r. ⌜ Put 110 (now (out .entry)) (now (out .exit)) at r (cellPrinted row column colspan rowspan inner) ⌝ }
+// Cell i of an array of cells, and its number of lines.
+pub fn cell_line(cells: &[u16], i: usize, lines: usize, out: &mut [u8], at: usize) -> usize
+    requires { ⌜ (i < 1024) × (at + 110 ≤ length (now out)) ⌝ }
+    ensures { λ r. ⌜ Put 110 (now (out .entry)) (now (out .exit)) at r (cellPrinted (now (cells .entry)) i lines) ⌝ }
 {
-    let values = [row, column, colspan, rowspan, inner];
+    let values = [
+        entry(cells, 5 * i),
+        entry(cells, 5 * i + 1),
+        entry(cells, 5 * i + 2),
+        entry(cells, 5 * i + 3),
+        lines,
+    ];
     let end = words(b"cell", &values, out, at);
     byte(b'\n', out, end)
 }

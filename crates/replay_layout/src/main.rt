@@ -51,33 +51,34 @@ fn print_answer(answer: LayoutAnswer, cols: &[u16], rows: &[u16], cells: &[u16],
     io::write_all(STDOUT_FILENO, b"\n");
 }
 
-// Calls with working space of these lengths and as much of the output arrays as `spaces` says.
-fn answer_into(
+// Calls with working space and output arrays of these lengths.
+fn answer_with(
     lines: usize,
     bytes: usize,
     lengths: &[u16],
     columns: &[u16],
     text: &[u8],
-    spaces: &[u16],
-    cols: &mut [u16],
-    rows: &mut [u16],
-    cells: &mut [u16],
-    ranges: &mut [u16],
-) {
+    a: usize,
+    b: usize,
+    c: usize,
+    d: usize,
+    e: usize,
+    f: usize,
+    g: usize,
+    h: usize,
+    k: usize,
+)
+    requires { ⌜ (a ≤ 16384) × (b ≤ 16384) × (c ≤ 16384) × (d ≤ 16384) × (e ≤ 4096) × (f ≤ 254) × (g ≤ 381) × (h ≤ 5120) × (k ≤ 32768) ⌝ }
+{
     let mut glyphs = [0u8; 16384];
     let mut offsets = [0u16; 16384];
     let mut down = [0u8; 16384];
     let mut right = [0u8; 16384];
     let mut rects = [0u8; 4096];
-    let a = space(spaces, 0, 16384);
-    let b = space(spaces, 1, 16384);
-    let c = space(spaces, 2, 16384);
-    let d = space(spaces, 3, 16384);
-    let e = space(spaces, 4, 4096);
-    let f = space(spaces, 5, cols.len());
-    let g = space(spaces, 6, rows.len());
-    let h = space(spaces, 7, cells.len());
-    let k = space(spaces, 8, ranges.len());
+    let mut cols = [0u16; 254];
+    let mut rows = [0u16; 381];
+    let mut cells = [0u16; 5120];
+    let mut ranges = [0u16; 32768];
     let answer = layout::layout(
         lines,
         bytes,
@@ -94,7 +95,7 @@ fn answer_into(
         &mut cells[0..h],
         &mut ranges[0..k],
     );
-    print_answer(answer, cols, rows, cells, ranges);
+    print_answer(answer, &cols, &rows, &cells, &ranges);
 }
 
 // The output arrays hold the largest results.
@@ -106,21 +107,21 @@ fn answer(
     text: &[u8],
     spaces: &[u16],
 ) {
-    let mut cols = [0u16; 254];
-    let mut rows = [0u16; 381];
-    let mut cells = [0u16; 5120];
-    let mut ranges = [0u16; 32768];
-    answer_into(
+    answer_with(
         lines,
         bytes,
         lengths,
         columns,
         text,
-        spaces,
-        &mut cols,
-        &mut rows,
-        &mut cells,
-        &mut ranges,
+        space(spaces, 0, 16384),
+        space(spaces, 1, 16384),
+        space(spaces, 2, 16384),
+        space(spaces, 3, 16384),
+        space(spaces, 4, 4096),
+        space(spaces, 5, 254),
+        space(spaces, 6, 381),
+        space(spaces, 7, 5120),
+        space(spaces, 8, 32768),
     );
 }
 

@@ -60,56 +60,29 @@ fn print_answer(
     io::write_all(STDOUT_FILENO, b"\n");
 }
 
+// Calls with working space and output arrays of these lengths, in the order of the call.
 fn answer_with(
     lines: usize,
     bytes: usize,
     lengths: &[u16],
     columns: &[u16],
     text: &[u8],
-    glyphs: &mut [u8],
-    offsets: &mut [u16],
-    down: &mut [u8],
-    right: &mut [u8],
-    rects: &mut [u8],
-    starts: &mut [u16],
-    counts: &mut [u8],
-    cols: &mut [u16],
-    sections: &mut [u8],
-    cells: &mut [u16],
-    out_lengths: &mut [u16],
-    out_text: &mut [u8],
-) {
-    let answer = table::table(
-        lines,
-        bytes,
-        lengths,
-        columns,
-        text,
-        glyphs,
-        offsets,
-        down,
-        right,
-        rects,
-        starts,
-        counts,
-        cols,
-        sections,
-        cells,
-        out_lengths,
-        out_text,
-    );
-    print_answer(answer, cols, sections, cells, out_lengths, out_text);
-}
-
-// Calls with working space and output arrays of these lengths. The output arrays hold the largest results.
-fn answer(
-    lines: usize,
-    bytes: usize,
-    lengths: &[u16],
-    columns: &[u16],
-    text: &[u8],
-    spaces: &[u16],
-) {
+    a: usize,
+    b: usize,
+    c: usize,
+    d: usize,
+    e: usize,
+    f: usize,
+    g: usize,
+    h: usize,
+    k: usize,
+    m: usize,
+    n: usize,
+    p: usize,
+)
+    requires { ⌜ (a ≤ 16384) × (b ≤ 16384) × (c ≤ 16384) × (d ≤ 16384) × (e ≤ 4096) × (f ≤ 128) × (g ≤ 1024) ⌝ }
+    requires { ⌜ (h ≤ 254) × (k ≤ 127) × (m ≤ 5120) × (n ≤ 16384) × (p ≤ 32768) ⌝ }
+{
     let mut glyphs = [0u8; 16384];
     let mut offsets = [0u16; 16384];
     let mut down = [0u8; 16384];
@@ -122,19 +95,7 @@ fn answer(
     let mut cells = [0u16; 5120];
     let mut out_lengths = [0u16; 16384];
     let mut out_text = [0u8; 32768];
-    let a = space(spaces, 0, 16384);
-    let b = space(spaces, 1, 16384);
-    let c = space(spaces, 2, 16384);
-    let d = space(spaces, 3, 16384);
-    let e = space(spaces, 4, 4096);
-    let f = space(spaces, 5, 128);
-    let g = space(spaces, 6, 1024);
-    let h = space(spaces, 7, 254);
-    let k = space(spaces, 8, 127);
-    let m = space(spaces, 9, 5120);
-    let n = space(spaces, 10, 16384);
-    let p = space(spaces, 11, 32768);
-    answer_with(
+    let answer = table::table(
         lines,
         bytes,
         lengths,
@@ -152,6 +113,37 @@ fn answer(
         &mut cells[0..m],
         &mut out_lengths[0..n],
         &mut out_text[0..p],
+    );
+    print_answer(answer, &cols, &sections, &cells, &out_lengths, &out_text);
+}
+
+// The output arrays hold the largest results.
+fn answer(
+    lines: usize,
+    bytes: usize,
+    lengths: &[u16],
+    columns: &[u16],
+    text: &[u8],
+    spaces: &[u16],
+) {
+    answer_with(
+        lines,
+        bytes,
+        lengths,
+        columns,
+        text,
+        space(spaces, 0, 16384),
+        space(spaces, 1, 16384),
+        space(spaces, 2, 16384),
+        space(spaces, 3, 16384),
+        space(spaces, 4, 4096),
+        space(spaces, 5, 128),
+        space(spaces, 6, 1024),
+        space(spaces, 7, 254),
+        space(spaces, 8, 127),
+        space(spaces, 9, 5120),
+        space(spaces, 10, 16384),
+        space(spaces, 11, 32768),
     );
 }
 

@@ -1,6 +1,6 @@
 -- `cell_lister::list_cells` meets its contract: each return by what splitting tells.
 -- Assumes nothing.
-use Rattle.cell_lister.proofs.ListedLaws.{large-listed, held-listed}
+use Rattle.cell_lister.proofs.InputLaws.{large-listed, held-listed}
 use Rattle.printing.proofs.PutLaws.{prints-as}
 use Rattle.input_lines.proofs.SheetLaws.{lines-fit, bytes-fit, parts-agree}
 use borrow.Author.Needs.{needs}

@@ -30,39 +30,6 @@ sub-least c = search needs
 least-requires : tie.Need-least-requires Inv-loop μ-loop
 least-requires c κs = search needs
 
-mul-entry-2 : tie.Need-mul-entry-2 Inv-loop μ-loop
-mul-entry-2 c = search needs
-
-entry-requires-2 : tie.Need-entry-requires-2 Inv-loop μ-loop
-entry-requires-2 c κs = search needs
-
-mul-entry-3 : tie.Need-mul-entry-3 Inv-loop μ-loop
-mul-entry-3 c = search needs
-
-add-entry-2 : tie.Need-add-entry-2 Inv-loop μ-loop
-add-entry-2 c = search needs
-
-entry-requires-3 : tie.Need-entry-requires-3 Inv-loop μ-loop
-entry-requires-3 c κs = search needs
-
-mul-entry-4 : tie.Need-mul-entry-4 Inv-loop μ-loop
-mul-entry-4 c = search needs
-
-add-entry-3 : tie.Need-add-entry-3 Inv-loop μ-loop
-add-entry-3 c = search needs
-
-entry-requires-4 : tie.Need-entry-requires-4 Inv-loop μ-loop
-entry-requires-4 c κs = search needs
-
-mul-entry-5 : tie.Need-mul-entry-5 Inv-loop μ-loop
-mul-entry-5 c = search needs
-
-add-entry-4 : tie.Need-add-entry-4 Inv-loop μ-loop
-add-entry-4 c = search needs
-
-entry-requires-5 : tie.Need-entry-requires-5 Inv-loop μ-loop
-entry-requires-5 c κs = search needs
-
 cell-line-requires : tie.Need-cell-line-requires Inv-loop μ-loop
 cell-line-requires c κs = search needs
 
@@ -104,9 +71,11 @@ loop-less c = search (needs, turn-less)
 
 loop-again : tie.Need-loop-again Inv-loop μ-loop
 loop-again c =
-    let entries = c .before .before .before .before .before .before .before .before .before .before .before in
-    cells-next _ _ _ _ _ _ (entries .before .before .before .before .before .before .before .loop .inv) _ _ _ _ _ _ _ (entries .before .before .before .before .before .before .loop-test .taken) (entries .before .before .before .before .before .entry .ensures) (entries .before .before .before .before .least .ensures)
-    (entries .before .before .before .entry2 .ensures) (entries .before .before .entry3 .ensures) (entries .before .entry4 .ensures) (entries .entry5 .ensures) (c .before .before .before .before .before .before .before .before .before .cell-line .ensures) (c .before .before .before .text-lines .ensures)
+    let start = c .before .before .before .before .before .before .before .before .before .before .before .before .before .before .before .before .before .before .before in
+    let counted = c .before .before .before .before .before .before .before .before .before .before .before .before .entry in
+    let least = c .before .before .before .before .before .before .before .before .before .before .before .least in
+    let lines = c .before .before .before .text-lines in
+    cells-next (start .args .count) (start .args .cells .now) (start .args .lengths .now) (start .args .text .now) (start .args .out .now) (start .args .at) (c .before .before .before .before .before .before .before .before .before .before .before .before .before .before .loop .inv) (counted .result) (least .result) (lines .result) (c .before .before .before .before .before .before .before .before .before .before .before .before .before .loop-test .taken) (counted .ensures) (least .ensures) (c .before .before .before .before .before .before .before .before .before .cell-line .ensures) (lines .ensures)
 
 same-length : tie.Need-same-length Inv-loop μ-loop
 same-length c = search needs
@@ -126,17 +95,6 @@ cell-lines-spec =
     entry-requires
     sub-least
     least-requires
-    mul-entry-2
-    entry-requires-2
-    mul-entry-3
-    add-entry-2
-    entry-requires-3
-    mul-entry-4
-    add-entry-3
-    entry-requires-4
-    mul-entry-5
-    add-entry-4
-    entry-requires-5
     cell-line-requires
     add-stop
     mul-text-lines

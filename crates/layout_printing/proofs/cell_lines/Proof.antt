@@ -36,24 +36,6 @@ entry-requires-2 c κs = search needs
 inner-lines-requires : tie.Need-inner-lines-requires Inv-loop μ-loop
 inner-lines-requires c κs = search needs
 
-mul-entry-3 : tie.Need-mul-entry-3 Inv-loop μ-loop
-mul-entry-3 c = search needs
-
-add-entry-2 : tie.Need-add-entry-2 Inv-loop μ-loop
-add-entry-2 c = search needs
-
-entry-requires-3 : tie.Need-entry-requires-3 Inv-loop μ-loop
-entry-requires-3 c κs = search needs
-
-mul-entry-4 : tie.Need-mul-entry-4 Inv-loop μ-loop
-mul-entry-4 c = search needs
-
-add-entry-3 : tie.Need-add-entry-3 Inv-loop μ-loop
-add-entry-3 c = search needs
-
-entry-requires-4 : tie.Need-entry-requires-4 Inv-loop μ-loop
-entry-requires-4 c κs = search needs
-
 cell-line-requires : tie.Need-cell-line-requires Inv-loop μ-loop
 cell-line-requires c κs = search needs
 
@@ -85,12 +67,6 @@ cell-lines-spec =
     add-entry
     entry-requires-2
     inner-lines-requires
-    mul-entry-3
-    add-entry-2
-    entry-requires-3
-    mul-entry-4
-    add-entry-3
-    entry-requires-4
     cell-line-requires
     add-i
     loop-less

@@ -2,7 +2,7 @@
 -- Assumes nothing.
 use Rattle.printing.proofs.PutLaws.{prints-as}
 use Rattle.input_lines.proofs.SheetLaws.{lines-fit, bytes-fit, parts-agree}
-use Rattle.lister.proofs.ListedLaws.{large-listed, held-listed}
+use Rattle.lister.proofs.InputLaws.{large-listed, held-listed}
 use borrow.Author.Needs.{needs}
 use Rattle.lister.proofs.list.Statement.{statement}
 use Rattle.lister.proofs.list.Tie as tie

@@ -1,10 +1,10 @@
--- `cell_lister::list_lines` meets its contract: each return by what the answer tells.
+-- `table_listing::list_lines` meets its contract: each return by what the answer tells.
 -- Assumes nothing.
 use Prim.Native.Nat.{_≤_}
-use Rattle.cell_lister.proofs.ListedLaws.{room-enough, few-told, table-listed, refused-listed, five-fits, parts-small}
+use Rattle.table_listing.proofs.ListedLaws.{few-told, table-listed, refused-listed, five-fits, parts-small}
 use borrow.Author.Needs.{needs}
-use Rattle.cell_lister.proofs.list_lines.Statement.{statement}
-use Rattle.cell_lister.proofs.list_lines.Tie as tie
+use Rattle.table_listing.proofs.list_lines.Statement.{statement}
+use Rattle.table_listing.proofs.list_lines.Tie as tie
 
 slice-aggregate-lines-table : tie.Need-slice-aggregate-lines-table
 slice-aggregate-lines-table c = search needs

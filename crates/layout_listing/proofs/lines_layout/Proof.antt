@@ -1,9 +1,9 @@
--- `lister::lines_layout` meets its contract: what the layout call tells.
+-- `layout_listing::lines_layout` meets its contract: what the layout call tells.
 -- Assumes nothing.
-use Rattle.lister.proofs.ListedLaws.{layout-told}
+use Rattle.layout_listing.proofs.ListedLaws.{layout-told}
 use borrow.Author.Needs.{needs}
-use Rattle.lister.proofs.lines_layout.Statement.{statement}
-use Rattle.lister.proofs.lines_layout.Tie as tie
+use Rattle.layout_listing.proofs.lines_layout.Statement.{statement}
+use Rattle.layout_listing.proofs.lines_layout.Tie as tie
 
 sub-layout : tie.Need-sub-layout
 sub-layout c = search needs

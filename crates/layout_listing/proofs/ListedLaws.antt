@@ -1,22 +1,21 @@
 -- From the layout call's answer and arrays to the listing.
 -- Assumes nothing.
-use Prim.Native.Nat.{ℕ, _-_, _≤_, _<_}
+use Prim.Native.Nat.{ℕ, _≤_}
 use mathlib.Core.Path.{_≡_, refl, ap, sym, _∙_}
-use mathlib.Core.Bool.{true, false}
+use mathlib.Core.Bool.{false}
 use mathlib.Core.List.{List, _++_, flatMap, List·Memᴰ}
 use native.Mathlib.Omega.{arith}
-use lib.ListN.{length, take, drop, length-append}
+use lib.ListN.{length, drop}
 use Rattle.seq.specs.Lists.{sum}
 use Rattle.grid.specs.Answer.{Answer, accept, refuse, refuseIf, andThen, afterwards, over}
 use Rattle.grid.specs.Values.{Line, Layout, Cell}
 use Rattle.grid.specs.Slots.{gridOf, trimmedAt}
 use Rattle.grid.specs.Layout.{layoutOf}
-use Rattle.grid.specs.Read.{drawingTooLarge, readLayout}
+use Rattle.grid.specs.Read.{readLayout}
 use Rattle.grid.specs.Flat.{FlatDrawing, drawingContradicts, splitText, linesOf, columnNumbers}
 use Rattle.grid.specs.LayoutCall.{LayoutSpace, LayoutSizes, LayoutArrays, spaceShort, rowNumbers, cellNumbers, layoutArrays, layoutSizes, layoutShort, layoutOver, layoutAccepts, layoutAnswer, layoutAfterwards}
-use Rattle.grid.specs.Listing.{listed, linesRead, listing}
+use Rattle.grid.specs.Listing.{listed}
 use Rattle.grid.proofs.ReadLaws.{read-cover}
-use Rattle.reading.specs.Call.{spaces}
 use Rattle.layout.specs.Call.{answerOf, arrays}
 use Rattle.layout.specs.declared.LayoutAnswer.{LayoutAnswer}
 use Rattle.layout.specs.declared.LayoutAnswer.the-variants.{Accepted, Refused}
@@ -24,13 +23,9 @@ use Rattle.printing.specs.Printing.{Prints, refusedLine}
 use Rattle.printing.proofs.PutLaws.{prints-as}
 use Rattle.layout_printing.specs.Printing.{innerLines, tablePrinted}
 use Rattle.layout_printing.proofs.TableLaws.{columns-back, rows-back, cells-back, inner-cells}
-use Rattle.input_lines.specs.Splitting.{Splits}
-use Rattle.input_lines.specs.declared.Split.{Split}
-use Rattle.input_lines.specs.declared.Split.the-variants.{Lines, TooLarge}
-use Rattle.input_lines.proofs.SplitLaws.{long-input}
-use Rattle.input_lines.proofs.SheetLaws.{zeroes, length-zeroes, sheetOf, sheet-agrees, sheet-lines, lines-counted, space-enough, too-large-refused, split-held}
-use Rattle.lister.specs.Listed.{listedLines, Told}
-use Rattle.lister.proofs.SizeLaws.{Laid, laid, layout-small, Rooms, layout-fits}
+use Rattle.input_lines.proofs.SheetLaws.{zeroes, length-zeroes, sheetOf, sheet-agrees, sheet-lines, lines-counted, freshSpace, fresh-enough}
+use Rattle.layout_listing.specs.Listed.{listedLines, Told}
+use Rattle.layout_listing.proofs.SizeLaws.{Laid, laid, layout-small, Rooms, layout-fits}
 
 -- what an answer tells of the listing of lines, given what reading them answers
 abbrev ToldOf : List Line → LayoutArrays → Answer Layout → LayoutAnswer → Type 0
@@ -100,14 +95,6 @@ module _ (w : LayoutSpace) (d : FlatDrawing) (out : LayoutArrays) (agree : drawi
 
 -- The lines that are handed in, with fresh working space
 
-abbrev freshSpace : LayoutSpace
-freshSpace = spaces (zeroes 16384) (zeroes 16384) (zeroes 16384) (zeroes 16384) (zeroes 4096)
-
-fresh-enough : spaceShort freshSpace ≡ false
-fresh-enough =
-    space-enough (zeroes 16384) (zeroes 16384) (zeroes 16384) (zeroes 16384) (zeroes 4096)
-    (length-zeroes 16384, length-zeroes 16384, length-zeroes 16384, length-zeroes 16384, length-zeroes 4096)
-
 module _ (lengths text cols rows cells : List ℕ) (few : length lengths ≤ 128) (whole : sum lengths ≡ length text) where
   as-told : (after : LayoutArrays) (r : LayoutAnswer) → ToldOf (linesOf (sheetOf lengths text)) after (readLayout (linesOf (sheetOf lengths text))) r
       → Told lengths text (after .columns) (after .rows) (after .cells) r
@@ -145,27 +132,3 @@ module _ (lengths text cols rows cells : List ℕ) (r : LayoutAnswer) where
   pub refused-listed : (number place : ℕ) → r ≡ Refused number place → Told lengths text cols rows cells r → {out : List ℕ} {end : ℕ} → Prints out end (refusedLine number place)
       → Prints out end (listedLines (splitText lengths text))
   refused-listed number place e h p = prints-as p (rw e at h)
-
--- The input
-
-pub large-listed : (input lengths text : List ℕ) (r : Split) → r ≡ TooLarge → Splits input lengths text r → refusedLine 2 0 ≡ listing input
-unfolding listing
-large-listed input lengths text r e h =
-    let large : drawingTooLarge (linesRead input) ≡ true = rw e at h in
-    rw (too-large-refused (linesRead input) large)
-
--- whatever follows the first 32,897 bytes, the listing is the same
-pub long-listed : (input : List ℕ) → 32896 < length input → refusedLine 2 0 ≡ listing input
-unfolding listing
-long-listed input h = rw (too-large-refused (linesRead input) (long-input input h))
-
-pub settled : (input rest : List ℕ) → length input ≡ 32897 → listing (input ++ rest) ≡ listing input
-settled input rest h = sym (long-listed (input ++ rest) (omega (arith, length-append input rest))) ∙ long-listed input (omega arith)
-
-pub held-listed : (input lengths text : List ℕ) (r : Split) (lines bytes : ℕ) → r ≡ Lines lines bytes → Splits input lengths text r
-    → listedLines (splitText (take (lines - 0) lengths) (take (bytes - 0) text)) ≡ listing input
-unfolding listing linesRead
-held-listed input lengths text r lines bytes e h =
-    let same : lines - 0 ≡ lines = omega arith in
-    let also : bytes - 0 ≡ bytes = omega arith in
-    rw (same, also, split-held input lengths text r lines bytes e h .split)

@@ -1,9 +1,9 @@
--- `lister::list_lines` meets its contract: each return by what the answer tells.
+-- `layout_listing::list_lines` meets its contract: each return by what the answer tells.
 -- Assumes nothing.
-use Rattle.lister.proofs.ListedLaws.{few-told, table-listed, refused-listed}
+use Rattle.layout_listing.proofs.ListedLaws.{few-told, table-listed, refused-listed}
 use borrow.Author.Needs.{needs}
-use Rattle.lister.proofs.list_lines.Statement.{statement}
-use Rattle.lister.proofs.list_lines.Tie as tie
+use Rattle.layout_listing.proofs.list_lines.Statement.{statement}
+use Rattle.layout_listing.proofs.list_lines.Tie as tie
 
 slice-aggregate-lines-layout : tie.Need-slice-aggregate-lines-layout
 slice-aggregate-lines-layout c = search needs

@@ -2,7 +2,7 @@
 -- Assumes nothing.
 use Prim.Native.Nat.{ℕ, _*_, _-_, _≤_}
 use mathlib.Core.Path.{_≡_, refl, ap, _∙_}
-use mathlib.Core.Bool.{true, false}
+use mathlib.Core.Bool.{false}
 use mathlib.Core.List.{List, map, flatMap}
 use native.Mathlib.Omega.{arith}
 use lib.ListN.{length, take, drop, length-map, length-take}
@@ -15,26 +15,21 @@ use Rattle.seq.specs.Lists.{sum}
 use Rattle.seq.proofs.FlatMaps.{length-flatMap}
 use Rattle.grid.specs.Answer.{Answer, accept, refuse, refuseIf, andThen, afterwards, over}
 use Rattle.grid.specs.Values.{Line, Table}
-use Rattle.grid.specs.Read.{drawingTooLarge, readTable}
+use Rattle.grid.specs.Read.{readTable}
 use Rattle.grid.specs.Flat.{FlatDrawing, TableSizes, TableArrays, drawingContradicts, splitText, linesOf, tableCellNumbers, tableLines, joinText, tableSizes, tableArrays, tableOfArrays}
 use Rattle.grid.specs.LayoutCall.{LayoutSpace, spaceShort}
 use Rattle.grid.specs.TableCall.{TableSpace, startsShort, tableSpaceShort, tableShort, tableOver, tableAccepts, tableAnswer, tableAfterwards}
-use Rattle.grid.specs.Listing.{linesRead}
-use Rattle.grid.specs.CellListing.{cellListed, cellsListed, cellListing}
+use Rattle.grid.specs.CellListing.{cellListed, cellsListed}
 use Rattle.grid.proofs.FlatTableLaws.{table-again}
-use Rattle.reading.specs.Call.{spaces}
 use Rattle.table.specs.Call.{answerOf, space, arrays}
 use Rattle.table.specs.declared.TableAnswer.{TableAnswer}
 use Rattle.table.specs.declared.TableAnswer.the-variants.{Accepted, Refused}
 use Rattle.printing.specs.Printing.{Prints, refusedLine}
 use Rattle.printing.proofs.PutLaws.{prints-as}
-use Rattle.input_lines.specs.Splitting.{Splits}
-use Rattle.input_lines.specs.declared.Split.{Split}
-use Rattle.input_lines.specs.declared.Split.the-variants.{Lines, TooLarge}
-use Rattle.input_lines.proofs.SheetLaws.{zeroes, length-zeroes, sheetOf, sheet-agrees, sheet-lines, space-enough, too-large-refused, split-held}
+use Rattle.input_lines.proofs.SheetLaws.{zeroes, length-zeroes, sheetOf, sheet-agrees, sheet-lines, freshSpace, fresh-enough}
 use Rattle.cell_printing.specs.Printing.{cellsOf, tableListed}
-use Rattle.cell_lister.specs.Listed.{linesListed, Told}
-use Rattle.cell_lister.proofs.FitLaws.{read-small, Rooms, small-fits}
+use Rattle.table_listing.specs.Listed.{linesListed, Told}
+use Rattle.table_listing.proofs.FitLaws.{read-small, Rooms, small-fits}
 
 -- The result in an array is its first entries
 
@@ -122,14 +117,6 @@ module _ (w : LayoutSpace) (s : TableSpace) (d : FlatDrawing) (out : TableArrays
 
 -- The lines that are handed in, with fresh working space
 
-abbrev freshSpace : LayoutSpace
-freshSpace = spaces (zeroes 16384) (zeroes 16384) (zeroes 16384) (zeroes 16384) (zeroes 4096)
-
-fresh-enough : spaceShort freshSpace ≡ false
-fresh-enough =
-    space-enough (zeroes 16384) (zeroes 16384) (zeroes 16384) (zeroes 16384) (zeroes 4096)
-    (length-zeroes 16384, length-zeroes 16384, length-zeroes 16384, length-zeroes 16384, length-zeroes 4096)
-
 abbrev freshTable : TableSpace
 freshTable = space (zeroes 128) (zeroes 1024)
 
@@ -163,10 +150,6 @@ module _ (lengths text cells keptLengths keptText : List ℕ) (few : length leng
 
 -- What is printed of an answer
 
--- room for every table is room for a refusal
-pub room-enough : (n : ℕ) → 196608 ≤ n → 131072 ≤ n
-room-enough n h = omega arith
-
 module _ (lengths text cells keptLengths keptText : List ℕ) (r : TableAnswer) where
   module _ (across tall count kept weight : ℕ) (e : r ≡ Accepted across tall count kept weight) (h : Told lengths text cells keptLengths keptText r) where
     accepted : Told lengths text cells keptLengths keptText (Accepted across tall count kept weight)
@@ -189,19 +172,3 @@ module _ {count kept weight : ℕ} (small : (count ≤ 1024) × (kept ≤ 16384)
 
   pub parts-small : (lengths text : List ℕ) → (count ≤ 1024) × (length (take (kept - 0) lengths) ≤ 16384) × (length (take (weight - 0) text) ≤ 32768)
   parts-small lengths text = (small .0, omega (arith, small, length-take (kept - 0) lengths), omega (arith, small, length-take (weight - 0) text))
-
--- The input
-
-pub large-listed : (input lengths text : List ℕ) (r : Split) → r ≡ TooLarge → Splits input lengths text r → refusedLine 2 0 ≡ cellListing input
-unfolding cellListing readTable
-large-listed input lengths text r e h =
-    let large : drawingTooLarge (linesRead input) ≡ true = rw e at h in
-    rw (too-large-refused (linesRead input) large)
-
-pub held-listed : (input lengths text : List ℕ) (r : Split) (lines bytes : ℕ) → r ≡ Lines lines bytes → Splits input lengths text r
-    → linesListed (splitText (take (lines - 0) lengths) (take (bytes - 0) text)) ≡ cellListing input
-unfolding cellListing linesRead
-held-listed input lengths text r lines bytes e h =
-    let same : lines - 0 ≡ lines = omega arith in
-    let also : bytes - 0 ≡ bytes = omega arith in
-    rw (same, also, split-held input lengths text r lines bytes e h .split)

@@ -1,9 +1,9 @@
--- `cell_lister::lines_table` meets its contract: what the table call tells.
+-- `table_listing::lines_table` meets its contract: what the table call tells.
 -- Assumes nothing.
-use Rattle.cell_lister.proofs.ListedLaws.{table-told}
+use Rattle.table_listing.proofs.ListedLaws.{table-told}
 use borrow.Author.Needs.{needs}
-use Rattle.cell_lister.proofs.lines_table.Statement.{statement}
-use Rattle.cell_lister.proofs.lines_table.Tie as tie
+use Rattle.table_listing.proofs.lines_table.Statement.{statement}
+use Rattle.table_listing.proofs.lines_table.Tie as tie
 
 sub-table : tie.Need-sub-table
 sub-table c = search needs

@@ -24,7 +24,7 @@ same-length : tie.Need-same-length
 same-length c = search needs
 
 returns : tie.Need-returns
-returns c = search (needs, table-put)
+returns c = search table-put
 
 pub table-cells-spec : {M : Type 1} → statement M
 table-cells-spec =

@@ -21,7 +21,7 @@ same-length : tie.Need-same-length
 same-length c = search needs
 
 returns : tie.Need-returns
-returns c = search (needs, line-put)
+returns c = search line-put
 
 pub text-line-spec : {M : Type 1} → statement M
 text-line-spec =

@@ -9,7 +9,7 @@ takes-two-requires : tie.Need-takes-two-requires
 takes-two-requires c κs = search needs
 
 returns : tie.Need-returns
-returns c = search (needs, set-of-three)
+returns c = search set-of-three
 
 pub in-set-of-three-spec : {M : Type 1} → statement M
 in-set-of-three-spec = tie.close (tie.spec takes-two-requires returns)

@@ -15,7 +15,7 @@ within-requires-3 : tie.Need-within-requires-3
 within-requires-3 c κs = search needs
 
 returns : tie.Need-returns
-returns c = search (needs, set-of-two)
+returns c = search set-of-two
 
 pub in-set-of-two-spec : {M : Type 1} → statement M
 in-set-of-two-spec =

@@ -7,7 +7,7 @@ tab-columns-requires : tie.Need-tab-columns-requires
 tab-columns-requires c κs = search needs
 
 returns : tie.Need-returns
-returns c = search (needs, tab-spans)
+returns c = search tab-spans
 
 width-requires : tie.Need-width-requires
 width-requires c κs = search needs
@@ -16,7 +16,7 @@ columns-or-zero-requires : tie.Need-columns-or-zero-requires
 columns-or-zero-requires c κs = search needs
 
 returns-2 : tie.Need-returns-2
-returns-2 c = search (needs, other-spans)
+returns-2 c = search other-spans
 
 pub span-spec : {M : Type 1} → statement M
 span-spec =

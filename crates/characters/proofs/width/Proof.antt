@@ -9,22 +9,22 @@ takes-one-requires : tie.Need-takes-one-requires
 takes-one-requires c κs = search needs
 
 returns : tie.Need-returns
-returns c = search (needs, tested-one)
+returns c = search tested-one
 
 within-requires : tie.Need-within-requires
 within-requires c κs = search needs
 
 returns-2 : tie.Need-returns-2
-returns-2 c = search (needs, tested-none)
+returns-2 c = search tested-none
 
 takes-two-requires : tie.Need-takes-two-requires
 takes-two-requires c κs = search needs
 
 returns-3 : tie.Need-returns-3
-returns-3 c = search (needs, tested-two)
+returns-3 c = search tested-two
 
 returns-4 : tie.Need-returns-4
-returns-4 c = search (needs, tested-outside)
+returns-4 c = search tested-outside
 
 pub width-spec : {M : Type 1} → statement M
 width-spec =

@@ -6,7 +6,7 @@ use Rattle.cut.proofs.after_first.Statement.{statement}
 use Rattle.cut.proofs.after_first.Tie as tie
 
 returns : tie.Need-returns
-returns c = search (needs, none-begins)
+returns c = search none-begins
 
 shared-slice-read-first : tie.Need-shared-slice-read-first
 shared-slice-read-first c = search needs
@@ -18,19 +18,19 @@ add-if4-2 : tie.Need-add-if4-2
 add-if4-2 c = search needs
 
 returns-2 : tie.Need-returns-2
-returns-2 c = search (needs, space-begins)
+returns-2 c = search space-begins
 
 returns-3 : tie.Need-returns-3
-returns-3 c = search (needs, other-begins)
+returns-3 c = search other-begins
 
 tab-columns-requires : tie.Need-tab-columns-requires
 tab-columns-requires c κs = search needs
 
 returns-4 : tie.Need-returns-4
-returns-4 c = search (needs, narrow-tab-begins)
+returns-4 c = search narrow-tab-begins
 
 returns-5 : tie.Need-returns-5
-returns-5 c = search (needs, wide-tab-begins)
+returns-5 c = search wide-tab-begins
 
 pub after-first-spec : {M : Type 1} → statement M
 after-first-spec =

@@ -12,19 +12,19 @@ too-large-requires : tie.Need-too-large-requires
 too-large-requires c κs = search needs
 
 returns : tie.Need-returns
-returns c = search (needs, refused-13)
+returns c = search refused-13
 
 returns-2 : tie.Need-returns-2
-returns-2 c = search (needs, refused-2)
+returns-2 c = search refused-2
 
 cut-part-requires : tie.Need-cut-part-requires
-cut-part-requires c κs = search (needs, checked)
+cut-part-requires c κs = search checked
 
 add-t15 : tie.Need-add-t15
-add-t15 c = search (needs, low-byte)
+add-t15 c = search low-byte
 
 returns-3 : tie.Need-returns-3
-returns-3 c = search (needs, accepted)
+returns-3 c = search accepted
 
 pub cell-fragment-spec : {M : Type 1} → statement M
 cell-fragment-spec =

@@ -12,13 +12,13 @@ enum-known-first : tie.Need-enum-known-first
 enum-known-first c = search needs
 
 sub-result : tie.Need-sub-result
-sub-result c = search (needs, part-forward)
+sub-result c = search part-forward
 
 part-result-start : tie.Need-part-result-start
-part-result-start c = search (needs, part-forward)
+part-result-start c = search part-forward
 
 part-result-end : tie.Need-part-result-end
-part-result-end c = search (needs, part-inside)
+part-result-end c = search part-inside
 
 enum-told : tie.Need-enum-told
 enum-told c = search needs
@@ -33,10 +33,10 @@ part-result-end-2 : tie.Need-part-result-end-2
 part-result-end-2 c = search needs
 
 returns : tie.Need-returns
-returns c = search (needs, part-cut)
+returns c = search part-cut
 
 returns-2 : tie.Need-returns-2
-returns-2 c = search (needs, refused-empty)
+returns-2 c = search refused-empty
 
 pub cell-text-spec : {M : Type 1} → statement M
 cell-text-spec =

@@ -30,7 +30,7 @@ add-t16-2 : tie.Need-add-t16-2
 add-t16-2 c = search needs
 
 returns : tie.Need-returns
-returns c = search (needs, pieced)
+returns c = search pieced
 
 pub cut-part-spec : {M : Type 1} → statement M
 cut-part-spec =

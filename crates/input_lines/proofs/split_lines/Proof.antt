@@ -16,7 +16,7 @@ abbrev μ-loop : tie.MeasureT-loop
 μ-loop input lengths₀ text₀ lines₀ bytes₀ at₀ lengths text lines bytes at = length input - at
 
 loop-holds : tie.Need-loop-holds Inv-loop μ-loop
-loop-holds c = search (needs, lines-none)
+loop-holds c = search lines-none
 
 find-feed-requires : tie.Need-find-feed-requires Inv-loop μ-loop
 find-feed-requires c κs = search needs
@@ -31,7 +31,7 @@ same-length-2 : tie.Need-same-length-2 Inv-loop μ-loop
 same-length-2 c = search needs
 
 returns : tie.Need-returns Inv-loop μ-loop
-returns c = search (needs, lines-many)
+returns c = search lines-many
 
 sub-if2 : tie.Need-sub-if2 Inv-loop μ-loop
 sub-if2 c = search needs
@@ -43,7 +43,7 @@ same-length-4 : tie.Need-same-length-4 Inv-loop μ-loop
 same-length-4 c = search needs
 
 returns-2 : tie.Need-returns-2 Inv-loop μ-loop
-returns-2 c = search (needs, lines-long)
+returns-2 c = search lines-long
 
 sub-copy : tie.Need-sub-copy Inv-loop μ-loop
 sub-copy c = search needs
@@ -76,7 +76,7 @@ loop-less : tie.Need-loop-less Inv-loop μ-loop
 loop-less c = search needs
 
 loop-again : tie.Need-loop-again Inv-loop μ-loop
-loop-again c = search (needs, lines-next)
+loop-again c = search lines-next
 
 same-length-5 : tie.Need-same-length-5 Inv-loop μ-loop
 same-length-5 c = search needs
@@ -85,7 +85,7 @@ same-length-6 : tie.Need-same-length-6 Inv-loop μ-loop
 same-length-6 c = search needs
 
 returns-3 : tie.Need-returns-3 Inv-loop μ-loop
-returns-3 c = search (needs, lines-held)
+returns-3 c = search lines-held
 
 pub split-lines-spec : {M : Type 1} → statement M
 split-lines-spec =

@@ -52,7 +52,7 @@ same-length : tie.Need-same-length Inv-loop μ-loop
 same-length c = search needs
 
 returns : tie.Need-returns Inv-loop μ-loop
-returns c = search (needs, cells-all)
+returns c = search cells-all
 
 pub cell-lines-spec : {M : Type 1} → statement M
 cell-lines-spec =

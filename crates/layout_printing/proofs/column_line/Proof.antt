@@ -27,7 +27,7 @@ same-length : tie.Need-same-length
 same-length c = search needs
 
 returns : tie.Need-returns
-returns c = search (needs, column-put)
+returns c = search column-put
 
 pub column-line-spec : {M : Type 1} → statement M
 column-line-spec =

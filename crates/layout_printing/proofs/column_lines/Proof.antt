@@ -50,7 +50,7 @@ same-length : tie.Need-same-length Inv-loop μ-loop
 same-length c = search needs
 
 returns : tie.Need-returns Inv-loop μ-loop
-returns c = search (needs, columns-all)
+returns c = search columns-all
 
 pub column-lines-spec : {M : Type 1} → statement M
 column-lines-spec =

@@ -33,7 +33,7 @@ less-requires-3 : tie.Need-less-requires-3
 less-requires-3 c κs = search needs
 
 returns : tie.Need-returns
-returns c = search (needs, inner-told)
+returns c = search inner-told
 
 pub inner-lines-spec : {M : Type 1} → statement M
 inner-lines-spec =

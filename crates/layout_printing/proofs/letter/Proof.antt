@@ -15,7 +15,7 @@ same-length : tie.Need-same-length
 same-length c = search needs
 
 returns : tie.Need-returns
-returns c = search (needs, letter-put)
+returns c = search letter-put
 
 pub letter-spec : {M : Type 1} → statement M
 letter-spec = tie.close (tie.spec byte-requires byte-requires-2 same-length returns)

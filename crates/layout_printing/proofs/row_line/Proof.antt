@@ -33,7 +33,7 @@ same-length : tie.Need-same-length
 same-length c = search needs
 
 returns : tie.Need-returns
-returns c = search (needs, row-put)
+returns c = search row-put
 
 pub row-line-spec : {M : Type 1} → statement M
 row-line-spec =

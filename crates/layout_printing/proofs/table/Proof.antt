@@ -30,7 +30,7 @@ same-length : tie.Need-same-length
 same-length c = search needs
 
 returns : tie.Need-returns
-returns c = search (needs, table-put)
+returns c = search table-put
 
 pub table-spec : {M : Type 1} → statement M
 table-spec =

@@ -32,7 +32,7 @@ part-list-lines-start : tie.Need-part-list-lines-start
 part-list-lines-start c = search needs
 
 part-list-lines-end : tie.Need-part-list-lines-end
-part-list-lines-end c = search (needs, lines-fit)
+part-list-lines-end c = search lines-fit
 
 sub-list-lines-2 : tie.Need-sub-list-lines-2
 sub-list-lines-2 c = search needs
@@ -41,7 +41,7 @@ part-list-lines-start-2 : tie.Need-part-list-lines-start-2
 part-list-lines-start-2 c = search needs
 
 part-list-lines-end-2 : tie.Need-part-list-lines-end-2
-part-list-lines-end-2 c = search (needs, bytes-fit)
+part-list-lines-end-2 c = search bytes-fit
 
 list-lines-requires : tie.Need-list-lines-requires
 list-lines-requires c κs =

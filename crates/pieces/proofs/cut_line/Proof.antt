@@ -19,10 +19,10 @@ cast-at : tie.Need-cast-at
 cast-at c = fits-16-64 (c .shared-slice-known6 .given _)
 
 add-from : tie.Need-add-from
-add-from c = search (needs, piece-start-fits)
+add-from c = search piece-start-fits
 
 add-to : tie.Need-add-to
-add-to c = search (needs, piece-end-fits)
+add-to c = search piece-end-fits
 
 sub-result : tie.Need-sub-result
 sub-result c = search needs
@@ -31,10 +31,10 @@ part-result-start : tie.Need-part-result-start
 part-result-start c = search needs
 
 part-result-end : tie.Need-part-result-end
-part-result-end c = search (needs, piece-inside)
+part-result-end c = search piece-inside
 
 returns : tie.Need-returns
-returns c = search (needs, piece-cut)
+returns c = search piece-cut
 
 pub cut-line-spec : {M : Type 1} → statement M
 cut-line-spec =

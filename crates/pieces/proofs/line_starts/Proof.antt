@@ -21,7 +21,7 @@ mul-starts : tie.Need-mul-starts Inv-loop μ-loop
 mul-starts c = search needs
 
 slice-write-starts : tie.Need-slice-write-starts Inv-loop μ-loop
-slice-write-starts c = search (needs, start-room)
+slice-write-starts c = search start-room
 
 mul-at : tie.Need-mul-at Inv-loop μ-loop
 mul-at c = search needs
@@ -30,7 +30,7 @@ shared-slice-read-at : tie.Need-shared-slice-read-at Inv-loop μ-loop
 shared-slice-read-at c = search needs
 
 add-at : tie.Need-add-at Inv-loop μ-loop
-add-at c = search (needs, next-fits)
+add-at c = search next-fits
 
 add-y : tie.Need-add-y Inv-loop μ-loop
 add-y c = search needs
@@ -45,7 +45,7 @@ same-length : tie.Need-same-length Inv-loop μ-loop
 same-length c = search needs
 
 returns : tie.Need-returns Inv-loop μ-loop
-returns c = search (needs, all-started)
+returns c = search all-started
 
 pub line-starts-spec : {M : Type 1} → statement M
 line-starts-spec =

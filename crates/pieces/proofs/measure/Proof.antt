@@ -70,7 +70,7 @@ cast-counts : tie.Need-cast-counts Inv-loop μ-loop
 cast-counts c = search needs
 
 slice-write-counts : tie.Need-slice-write-counts Inv-loop μ-loop
-slice-write-counts c = search (needs, count-room)
+slice-write-counts c = search count-room
 
 add-lines : tie.Need-add-lines Inv-loop μ-loop
 add-lines c = search (needs, lines-fit)

@@ -22,13 +22,13 @@ loop-holds : tie.Need-loop-holds Inv-loop μ-loop
 loop-holds c = search (needs, none-measured)
 
 cut-line-requires : tie.Need-cut-line-requires Inv-loop μ-loop
-cut-line-requires c κs = search (needs, line-cuttable)
+cut-line-requires c κs = search line-cuttable
 
 sub-lines : tie.Need-sub-lines Inv-loop μ-loop
 sub-lines c = omega arith
 
 add-bytes : tie.Need-add-bytes Inv-loop μ-loop
-add-bytes c = search (needs, bytes-fit)
+add-bytes c = search bytes-fit
 
 add-y-2 : tie.Need-add-y-2 Inv-loop μ-loop
 add-y-2 c = omega arith

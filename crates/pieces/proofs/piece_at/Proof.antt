@@ -25,7 +25,7 @@ cast-to : tie.Need-cast-to
 cast-to c = fits-16-64 (c .shared-slice-known7 .given _)
 
 add-to : tie.Need-add-to
-add-to c = search (needs, line-fits)
+add-to c = search line-fits
 
 sub-line : tie.Need-sub-line
 sub-line c = search needs
@@ -34,7 +34,7 @@ part-line-start : tie.Need-part-line-start
 part-line-start c = search needs
 
 part-line-end : tie.Need-part-line-end
-part-line-end c = search (needs, line-inside)
+part-line-end c = search line-inside
 
 mul-t18 : tie.Need-mul-t18
 mul-t18 c = search needs
@@ -52,7 +52,7 @@ cast-t23 : tie.Need-cast-t23
 cast-t23 c = fits-16-64 (c .shared-slice-known8 .given _)
 
 add-t24 : tie.Need-add-t24
-add-t24 c = search (needs, start-fits)
+add-t24 c = search start-fits
 
 mul-t18-2 : tie.Need-mul-t18-2
 mul-t18-2 c = search needs
@@ -79,10 +79,10 @@ cast-t21-2 : tie.Need-cast-t21-2
 cast-t21-2 c = fits-16-64 (c .shared-slice-known10 .given _)
 
 cut-part-requires : tie.Need-cut-part-requires
-cut-part-requires c κs = search (needs, part-checked)
+cut-part-requires c κs = search part-checked
 
 returns : tie.Need-returns
-returns c = search (needs, piece-told)
+returns c = search piece-told
 
 pub piece-at-spec : {M : Type 1} → statement M
 piece-at-spec =

@@ -54,7 +54,7 @@ same-length : tie.Need-same-length
 same-length c = search needs
 
 returns : tie.Need-returns
-returns c = search (needs, cell-put)
+returns c = search cell-put
 
 pub cell-line-spec : {M : Type 1} → statement M
 cell-line-spec =

@@ -42,7 +42,7 @@ same-length : tie.Need-same-length Inv-loop μ-loop
 same-length c = search needs
 
 returns : tie.Need-returns Inv-loop μ-loop
-returns c = search (needs, copied-all)
+returns c = search copied-all
 
 pub copy-spec : {M : Type 1} → statement M
 copy-spec =

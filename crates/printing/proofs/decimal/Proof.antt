@@ -27,7 +27,7 @@ same-length : tie.Need-same-length
 same-length c = search needs
 
 returns : tie.Need-returns
-returns c = search (needs, decimal-put)
+returns c = search decimal-put
 
 pub decimal-spec : {M : Type 1} → statement M
 decimal-spec =

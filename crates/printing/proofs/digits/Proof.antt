@@ -31,7 +31,7 @@ slice-write-digits : tie.Need-slice-write-digits Inv-loop μ-loop
 slice-write-digits c = search needs
 
 same-length : tie.Need-same-length Inv-loop μ-loop
-same-length c = search (needs, set-kept)
+same-length c = search set-kept
 
 returns : tie.Need-returns Inv-loop μ-loop
 returns c =
@@ -51,7 +51,7 @@ same-length-2 : tie.Need-same-length-2 Inv-loop μ-loop
 same-length-2 c = search needs
 
 returns-2 : tie.Need-returns-2 Inv-loop μ-loop
-returns-2 c = search (needs, digits-none)
+returns-2 c = search digits-none
 
 pub digits-spec : {M : Type 1} → statement M
 digits-spec =

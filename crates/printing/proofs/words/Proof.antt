@@ -15,7 +15,7 @@ same-length : tie.Need-same-length
 same-length c = search needs
 
 returns : tie.Need-returns
-returns c = search (needs, put-then)
+returns c = search put-then
 
 pub words-spec : {M : Type 1} → statement M
 words-spec = tie.close (tie.spec copy-requires numbers-requires same-length returns)

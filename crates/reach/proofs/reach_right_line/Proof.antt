@@ -33,7 +33,7 @@ run-end-requires : tie.Need-run-end-requires Inv-loop μ-loop
 run-end-requires c κs = search needs
 
 cast-right : tie.Need-cast-right Inv-loop μ-loop
-cast-right c = search (needs, last-fits)
+cast-right c = search last-fits
 
 mul-right : tie.Need-mul-right Inv-loop μ-loop
 mul-right c = search needs

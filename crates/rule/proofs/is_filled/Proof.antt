@@ -18,7 +18,7 @@ abbrev μ-loop : tie.MeasureT-loop
 μ-loop segment fill i₀ i = length segment - i
 
 returns : tie.Need-returns Inv-loop μ-loop
-returns c = search (needs, fills-none)
+returns c = search fills-none
 
 loop-holds : tie.Need-loop-holds Inv-loop μ-loop
 loop-holds c = search (needs, fills-from)
@@ -27,7 +27,7 @@ shared-slice-read-if2 : tie.Need-shared-slice-read-if2 Inv-loop μ-loop
 shared-slice-read-if2 c = search needs
 
 returns-2 : tie.Need-returns-2 Inv-loop μ-loop
-returns-2 c = search (needs, other-here)
+returns-2 c = search other-here
 
 add-i : tie.Need-add-i Inv-loop μ-loop
 add-i c = search needs
@@ -39,7 +39,7 @@ loop-again : tie.Need-loop-again Inv-loop μ-loop
 loop-again c = search (needs, fill-here)
 
 returns-3 : tie.Need-returns-3 Inv-loop μ-loop
-returns-3 c = search (needs, fills-all)
+returns-3 c = search fills-all
 
 pub is-filled-spec : {M : Type 1} → statement M
 is-filled-spec =

@@ -18,13 +18,13 @@ abbrev μ-loop : tie.MeasureT-loop
 μ-loop text fill rest₀ rest = length rest
 
 returns : tie.Need-returns Inv-loop μ-loop
-returns c = search (needs, empty-no-rule)
+returns c = search empty-no-rule
 
 shared-slice-read-if2 : tie.Need-shared-slice-read-if2 Inv-loop μ-loop
 shared-slice-read-if2 c = search needs
 
 returns-2 : tie.Need-returns-2 Inv-loop μ-loop
-returns-2 c = search (needs, no-plus-no-rule)
+returns-2 c = search no-plus-no-rule
 
 sub-rest : tie.Need-sub-rest Inv-loop μ-loop
 sub-rest c = search needs
@@ -42,7 +42,7 @@ segment-end-requires : tie.Need-segment-end-requires Inv-loop μ-loop
 segment-end-requires c κs = search needs
 
 returns-3 : tie.Need-returns-3 Inv-loop μ-loop
-returns-3 c = search (needs, rule-unclosed)
+returns-3 c = search rule-unclosed
 
 slice-aggregate-is-segment : tie.Need-slice-aggregate-is-segment Inv-loop μ-loop
 slice-aggregate-is-segment c = search (needs, length-take-le, le-of-lt)
@@ -51,7 +51,7 @@ is-segment-requires : tie.Need-is-segment-requires Inv-loop μ-loop
 is-segment-requires c κs = search needs
 
 returns-4 : tie.Need-returns-4 Inv-loop μ-loop
-returns-4 c = search (needs, rule-breaks)
+returns-4 c = search rule-breaks
 
 add-rest : tie.Need-add-rest Inv-loop μ-loop
 add-rest c = search needs
@@ -72,7 +72,7 @@ loop-again : tie.Need-loop-again Inv-loop μ-loop
 loop-again c = search (needs, rule-goes-on)
 
 returns-5 : tie.Need-returns-5 Inv-loop μ-loop
-returns-5 c = search (needs, rule-ends)
+returns-5 c = search rule-ends
 
 pub is-rule-spec : {M : Type 1} → statement M
 is-rule-spec =

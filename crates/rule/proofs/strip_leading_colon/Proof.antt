@@ -6,7 +6,7 @@ use Rattle.rule.proofs.strip_leading_colon.Statement.{statement}
 use Rattle.rule.proofs.strip_leading_colon.Tie as tie
 
 returns : tie.Need-returns
-returns c = search (needs, empty-no-leading-colon)
+returns c = search empty-no-leading-colon
 
 shared-slice-read-if2 : tie.Need-shared-slice-read-if2
 shared-slice-read-if2 c = search needs
@@ -21,10 +21,10 @@ part-result-end : tie.Need-part-result-end
 part-result-end c = search needs
 
 returns-2 : tie.Need-returns-2
-returns-2 c = search (needs, leading-colon)
+returns-2 c = search leading-colon
 
 returns-3 : tie.Need-returns-3
-returns-3 c = search (needs, no-leading-colon)
+returns-3 c = search no-leading-colon
 
 pub strip-leading-colon-spec : {M : Type 1} → statement M
 strip-leading-colon-spec =

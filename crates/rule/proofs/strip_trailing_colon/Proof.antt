@@ -8,7 +8,7 @@ use Rattle.rule.proofs.strip_trailing_colon.Statement.{statement}
 use Rattle.rule.proofs.strip_trailing_colon.Tie as tie
 
 returns : tie.Need-returns
-returns c = search (needs, empty-no-trailing-colon)
+returns c = search empty-no-trailing-colon
 
 sub-last : tie.Need-sub-last
 sub-last c = search needs
@@ -20,10 +20,10 @@ slice-aggregate-result : tie.Need-slice-aggregate-result
 slice-aggregate-result c = search (needs, length-take-le, sub-le)
 
 returns-2 : tie.Need-returns-2
-returns-2 c = search (needs, trailing-colon)
+returns-2 c = search trailing-colon
 
 returns-3 : tie.Need-returns-3
-returns-3 c = search (needs, no-trailing-colon)
+returns-3 c = search no-trailing-colon
 
 pub strip-trailing-colon-spec : {M : Type 1} → statement M
 strip-trailing-colon-spec =

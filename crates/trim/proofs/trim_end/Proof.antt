@@ -29,10 +29,10 @@ is-blank-requires : tie.Need-is-blank-requires Inv-loop μ-loop
 is-blank-requires c κs = search needs
 
 slice-aggregate-result : tie.Need-slice-aggregate-result Inv-loop μ-loop
-slice-aggregate-result c = search (needs, length-take-le)
+slice-aggregate-result c = search length-take-le
 
 returns : tie.Need-returns Inv-loop μ-loop
-returns c = search (needs, trim-stops)
+returns c = search trim-stops
 
 sub-n : tie.Need-sub-n Inv-loop μ-loop
 sub-n c = search needs
@@ -47,7 +47,7 @@ slice-aggregate-result-2 : tie.Need-slice-aggregate-result-2 Inv-loop μ-loop
 slice-aggregate-result-2 c = search needs
 
 returns-2 : tie.Need-returns-2 Inv-loop μ-loop
-returns-2 c = search (needs, trim-leaves-none)
+returns-2 c = search trim-leaves-none
 
 pub trim-end-spec : {M : Type 1} → statement M
 trim-end-spec =

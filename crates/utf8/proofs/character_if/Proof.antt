@@ -6,7 +6,7 @@ use Rattle.utf8.proofs.character_if.Statement.{statement}
 use Rattle.utf8.proofs.character_if.Tie as tie
 
 returns : tie.Need-returns
-returns c = search (needs, character-when)
+returns c = search character-when
 
 returns-2 : tie.Need-returns-2
 returns-2 c = search needs

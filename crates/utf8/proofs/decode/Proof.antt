@@ -7,7 +7,7 @@ use Rattle.utf8.proofs.decode.Statement.{statement}
 use Rattle.utf8.proofs.decode.Tie as tie
 
 returns : tie.Need-returns
-returns c = search (needs, character-past)
+returns c = search character-past
 
 byte-or-zero-requires : tie.Need-byte-or-zero-requires
 byte-or-zero-requires c κs = search needs
@@ -22,7 +22,7 @@ character-if-requires : tie.Need-character-if-requires
 character-if-requires c κs = search needs
 
 returns-2 : tie.Need-returns-2
-returns-2 c = search (needs, character-one)
+returns-2 c = search character-one
 
 add-byte-or-zero : tie.Need-add-byte-or-zero
 add-byte-or-zero c = search needs
@@ -40,7 +40,7 @@ from-two-requires : tie.Need-from-two-requires
 from-two-requires c κs = (within-low 0xc0 0xdf _ (cc), search needs, search needs)
 
 returns-3 : tie.Need-returns-3
-returns-3 c = search (needs, character-two)
+returns-3 c = search character-two
 
 within-requires-2 : tie.Need-within-requires-2
 within-requires-2 c κs = search needs
@@ -58,10 +58,10 @@ from-three-requires : tie.Need-from-three-requires
 from-three-requires c κs = (within-low 0xe0 0xef _ (cc), search needs, search needs, search needs)
 
 returns-4 : tie.Need-returns-4
-returns-4 c = search (needs, character-three)
+returns-4 c = search character-three
 
 returns-5 : tie.Need-returns-5
-returns-5 c = search (needs, character-none)
+returns-5 c = search character-none
 
 pub decode-spec : {M : Type 1} → statement M
 decode-spec =

@@ -18,7 +18,7 @@ mul-value : tie.Need-mul-value
 mul-value c = search needs
 
 sub-value-2 : tie.Need-sub-value-2
-sub-value-2 c = search (needs, second-low)
+sub-value-2 c = search second-low
 
 add-value : tie.Need-add-value
 add-value c = search needs
@@ -27,7 +27,7 @@ mul-value-2 : tie.Need-mul-value-2
 mul-value-2 c = search needs
 
 sub-value-3 : tie.Need-sub-value-3
-sub-value-3 c = search (needs, third-low)
+sub-value-3 c = search third-low
 
 add-value-2 : tie.Need-add-value-2
 add-value-2 c = search needs
@@ -39,10 +39,10 @@ character-if-requires : tie.Need-character-if-requires
 character-if-requires c κs = search needs
 
 returns : tie.Need-returns
-returns c = search (needs, from-three-is)
+returns c = search from-three-is
 
 returns-2 : tie.Need-returns-2
-returns-2 c = search (needs, from-three-refused)
+returns-2 c = search from-three-refused
 
 pub from-three-spec : {M : Type 1} → statement M
 from-three-spec =

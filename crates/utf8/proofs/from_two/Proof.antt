@@ -28,10 +28,10 @@ character-if-requires : tie.Need-character-if-requires
 character-if-requires c κs = search needs
 
 returns : tie.Need-returns
-returns c = search (needs, from-two-is)
+returns c = search from-two-is
 
 returns-2 : tie.Need-returns-2
-returns-2 c = search (needs, from-two-refused)
+returns-2 c = search from-two-refused
 
 pub from-two-spec : {M : Type 1} → statement M
 from-two-spec =

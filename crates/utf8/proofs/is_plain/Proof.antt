@@ -35,7 +35,7 @@ loop-again : tie.Need-loop-again Inv-loop μ-loop
 loop-again c = search (needs, plain-next)
 
 returns : tie.Need-returns Inv-loop μ-loop
-returns c = search (needs, plain-ends)
+returns c = search plain-ends
 
 pub is-plain-spec : {M : Type 1} → statement M
 is-plain-spec =

@@ -27,7 +27,7 @@ enum-told : tie.Need-enum-told Inv-loop μ-loop
 enum-told c = search needs
 
 returns : tie.Need-returns Inv-loop μ-loop
-returns c = search (needs, ill-formed)
+returns c = search ill-formed
 
 add-at : tie.Need-add-at Inv-loop μ-loop
 add-at c = omega (arith, size-fits (c .before .before .before .before .before .before .before .args .line .now) (c .before .before .before .before .before .loop .at) _ (c .before .before .before .decode .ensures) _ _ (c .before .size .given .1))
@@ -42,7 +42,7 @@ loop-again c = (
 )
 
 returns-2 : tie.Need-returns-2 Inv-loop μ-loop
-returns-2 c = search (needs, well-to-the-end)
+returns-2 c = search well-to-the-end
 
 pub well-decoded-spec : {M : Type 1} → statement M
 well-decoded-spec =

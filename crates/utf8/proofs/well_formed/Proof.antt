@@ -9,7 +9,7 @@ is-plain-requires : tie.Need-is-plain-requires
 is-plain-requires c κs = search needs
 
 returns : tie.Need-returns
-returns c = search (needs, plain-well)
+returns c = search plain-well
 
 well-decoded-requires : tie.Need-well-decoded-requires
 well-decoded-requires c κs = search needs

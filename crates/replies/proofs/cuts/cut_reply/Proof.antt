@@ -12,10 +12,10 @@ enum-known-answer-2 : tie.Need-enum-known-answer-2
 enum-known-answer-2 c = search needs
 
 returns : tie.Need-returns
-returns c = search (needs, cut-reply-accepted)
+returns c = search cut-reply-accepted
 
 returns-2 : tie.Need-returns-2
-returns-2 c = search (needs, cut-reply-refused)
+returns-2 c = search cut-reply-refused
 
 pub cut-reply-spec : {M : Type 1} → statement M
 cut-reply-spec = tie.close (tie.spec enum-known-answer enum-known-answer-2 returns returns-2)

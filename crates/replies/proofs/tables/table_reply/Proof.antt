@@ -12,10 +12,10 @@ enum-known-answer-2 : tie.Need-enum-known-answer-2
 enum-known-answer-2 c = search needs
 
 returns : tie.Need-returns
-returns c = search (needs, table-reply-accepted)
+returns c = search table-reply-accepted
 
 returns-2 : tie.Need-returns-2
-returns-2 c = search (needs, table-reply-refused)
+returns-2 c = search table-reply-refused
 
 pub table-reply-spec : {M : Type 1} → statement M
 table-reply-spec = tie.close (tie.spec enum-known-answer enum-known-answer-2 returns returns-2)

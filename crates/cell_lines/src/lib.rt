@@ -20,7 +20,8 @@ fn copy_to(from: &[u8], at: usize, out: &mut [u8])
     }
 }
 
-// The first `count` lines of a cell: their lengths from entry `at` on, and their text from `byte` on. Answers where the text ends.
+// The first `count` lines of a cell: their lengths from entry `at` on, and their text from `byte`
+// on. Answers where the text ends.
 pub fn write_lines(
     lengths: &[u16],
     columns: &[u16],

@@ -1,4 +1,4 @@
-// Reading's checks up to the slots (layout.rs: Grid::layout).
+// Reading's checks 13 and 3, before the slots; the Rust has neither.
 use utf8::well_formed;
 ghost use mathlib.Core.Path.{_≡_};
 ghost use mathlib.Core.Bool.{not};

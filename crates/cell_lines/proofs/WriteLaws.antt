@@ -12,12 +12,12 @@ use mir.Val.{Fits}
 use Rattle.seq.specs.Lists.{range}
 use Rattle.seq.proofs.Positions.{getD-range}
 use Rattle.seq.proofs.Ranges.{length-range}
+use Rattle.seq.proofs.FlatMaps.{flatMap-ones}
 use Rattle.seq.proofs.Entries.{Written, length-more, first-shorter, none-written, all-written, write-more, write-sets}
 use Rattle.grid.specs.Flat.{joinText, linesFrom}
 use Rattle.grid.specs.Arrays.{codeAt}
 use Rattle.grid.proofs.CutLaws.{cut-shorter}
 use Rattle.pieces.specs.Text.{Source, cutBetween, Ready, Cuttable}
-use Rattle.pieces.proofs.LineLaws.{flatMap-ones}
 
 -- ---- a text copied: its first i bytes stand from `at` on
 module _ (from : List ℕ) (at : ℕ) (buffer out : List ℕ) (i : ℕ) (e : out ≡ paste buffer at from i) where

@@ -25,7 +25,7 @@ use Rattle.text.specs.Trim.{trimEnd}
 use Rattle.text.proofs.PartLaws.{well-drop, well-take, well-rest, well-trimmed}
 use Rattle.grid.specs.Values.{Line, Rect, Fragment}
 use Rattle.grid.specs.Slots.{Grid, gridOf, byteAt}
-use Rattle.grid.specs.Layout.{contentAt, innerLines}
+use Rattle.grid.specs.Layout.{contentAt, innerLines, innerCount}
 use Rattle.grid.specs.Cut.{part, afterFirst, cut}
 use Rattle.grid.specs.Cover.{Cover}
 use Rattle.grid.specs.Read.{outsideSet}
@@ -33,7 +33,6 @@ use Rattle.grid.proofs.ReadLaws.{Passed, height-of, read-cover, read-li
 use Rattle.grid.proofs.SeparatorLaws.{row-filled}
 use Rattle.grid.proofs.SlotLaws.{rows-length}
 use Rattle.grid.proofs.ByteLaws.{slot-in-line, border-byte, bytes-climb}
-use Rattle.grid.proofs.SizeLaws.{innerCount}
 use Rattle.grid.proofs.SquareSums.{rectWeight, gridWeight, cover-weight}
 use Rattle.grid.proofs.CutLaws.{cut-shorter}
 use Rattle.grid.proofs.CellLaws.{cutAt}

@@ -11,14 +11,10 @@ use Rattle.seq.proofs.FlatMaps.{flatMap-map, length-flatMap, length-flatMap-sum
 use Rattle.seq.proofs.Ranges.{length-range}
 use Rattle.grid.specs.Values.{Line, Rect, Cell}
 use Rattle.grid.specs.Slots.{Grid, trimmedAt}
-use Rattle.grid.specs.Layout.{between, columnLines, rowLines, columnsRead, rowsRead, innerLines, contentAt, cellRead, layoutOf}
+use Rattle.grid.specs.Layout.{between, columnLines, rowLines, columnsRead, rowsRead, innerLines, innerCount, contentAt, cellRead, layoutOf}
 use Rattle.grid.specs.Flat.{columnNumbers}
 use Rattle.grid.specs.LayoutCall.{LayoutArrays, contents, rowNumbers, cellNumbers, rangeNumbers, layoutArrays, layoutSizes, layoutShort}
 use Rattle.grid.proofs.LayoutLaws.{length-between}
-
--- how many inner lines all cells have
-abbrev pub innerCount : List Rect → ℕ
-innerCount rs = sum (map (λ (q : Rect). q .bottom - q .top - 1) rs)
 
 module _ (lines : List Line) (g : Grid) (rs : List Rect) where
   pub columns-count : length (columnsRead lines g rs) ≡ length (columnLines g rs) - 1

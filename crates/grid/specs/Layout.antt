@@ -5,7 +5,7 @@ use mathlib.Core.List.{List, [], _∷_, map}
 use mathlib.Core.Option.{Option, none, some}
 use lib.ListN.{getD, drop}
 use lib.Dec.{eqb, leb, ltb}
-use Rattle.seq.specs.Lists.{range, upTo, any, select, count, lastD, someIf, orDefault}
+use Rattle.seq.specs.Lists.{range, upTo, any, select, count, lastD, someIf, orDefault, sum}
 use Rattle.text.specs.Characters.{colon}
 use Rattle.text.specs.Rule.{toPlus}
 use Rattle.grid.specs.Values.{Line, Rect, GridTableColumn, Row, Range, Cell, Layout}
@@ -104,6 +104,10 @@ contentAt g r y = record { start = byteAt g y (r .left) + 1; end = byteAt g y (r
 -- "each line strictly inside a cell"
 abbrev pub innerLines : Rect → List ℕ
 innerLines r = range (r .top + 1) (r .bottom - r .top - 1)
+
+-- how many lines stand inside all cells together
+abbrev pub innerCount : List Rect → ℕ
+innerCount rs = sum (map (λ (q : Rect). q .bottom - q .top - 1) rs)
 
 unfoldable pub cellRead : Grid → List Rect → Rect → Cell
 cellRead g rs r =

@@ -9,10 +9,10 @@ use Rattle.seq.specs.Lists.{orDefault}
 use Rattle.grid.specs.Answer.{accept, refuse, over}
 use Rattle.grid.specs.Values.{Line, Rect}
 use Rattle.grid.specs.Slots.{gridOf, trimmedAt}
-use Rattle.grid.specs.Layout.{headEnd, footStart, columnLines, rowLines, layoutOf}
+use Rattle.grid.specs.Layout.{headEnd, footStart, columnLines, rowLines, innerCount, layoutOf}
 use Rattle.grid.specs.LayoutCall.{LayoutArrays, layoutArrays, layoutShort, layoutOver}
 use Rattle.grid.specs.LayoutParts.{finishAnswer, finishSizes, finishArrays}
-use Rattle.grid.proofs.SizeLaws.{innerCount, sizes-agree, short-agrees}
+use Rattle.grid.proofs.SizeLaws.{sizes-agree, short-agrees}
 use Rattle.entries.specs.Writing.{columnEntries, rowEntries, cellEntries, allRanges}
 use Rattle.entries.specs.declared.Parts.{Parts}
 use Rattle.entries.proofs.AgreeLaws.{Laid, arrays-agree}

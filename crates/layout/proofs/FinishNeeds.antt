@@ -15,13 +15,12 @@ use Rattle.text.specs.Trim.{trimEnd}
 use Rattle.grid.specs.Answer.{accept, refuse, over}
 use Rattle.grid.specs.Values.{Rect}
 use Rattle.grid.specs.Slots.{gridOf}
-use Rattle.grid.specs.Layout.{innerLines, rowLines, columnLines}
+use Rattle.grid.specs.Layout.{innerLines, innerCount, rowLines, columnLines}
 use Rattle.grid.specs.Flat.{linesFrom, splitText}
 use Rattle.grid.specs.LayoutCall.{LayoutArrays, slotSpace}
 use Rattle.grid.specs.LayoutParts.{finishSizes, finishArrays}
 use Rattle.grid.specs.Arrays.{codeAt, rectsOf}
 use Rattle.grid.proofs.EntryLaws.{length-rects}
-use Rattle.grid.proofs.SizeLaws.{innerCount}
 use Rattle.entries.specs.Edges.{rowLinesBelow, columnLinesBelow}
 use Rattle.entries.specs.Writing.{linesHeld, Rising, columnEntries, rowEntries, cellEntries, rangeEntries, allRanges, Numbered}
 use Rattle.entries.specs.declared.Parts.{Parts}

@@ -10,11 +10,11 @@ use borrow.Author.Tests.{le-ltb}
 use Rattle.grid.specs.Answer.{accept}
 use Rattle.grid.specs.Values.{Line, Rect, Layout}
 use Rattle.grid.specs.Slots.{gridOf}
-use Rattle.grid.specs.Layout.{columnLines, rowLines, cellRead, layoutOf}
+use Rattle.grid.specs.Layout.{columnLines, rowLines, innerCount, cellRead, layoutOf}
 use Rattle.grid.specs.Read.{readLayout}
 use Rattle.grid.specs.LayoutCall.{LayoutArrays, layoutArrays, layoutShort}
 use Rattle.grid.proofs.LayoutLaws.{columnLines-few, rowLines-few}
-use Rattle.grid.proofs.SizeLaws.{innerCount, columns-count, rows-count, short-agrees}
+use Rattle.grid.proofs.SizeLaws.{columns-count, rows-count, short-agrees}
 use Rattle.grid.proofs.ReadLaws.{Passed, passed, height-of, read-few, read-limited, read-narrow, layout-read}
 use Rattle.grid.proofs.CellTexts.{all-lines}
 

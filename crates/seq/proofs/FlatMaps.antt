@@ -47,6 +47,12 @@ module _ {A B : Type 0} where
   flatMap-append f [] l = refl
   flatMap-append f (a ∷ k) l = rw (flatMap-append f k l, append-assoc)
 
+  -- lists of one each
+  pub flatMap-ones : (f : A → B) (l : List A) → flatMap (λ a. f a ∷ []) l ≡ map f l
+  unfolding flatMap
+  flatMap-ones f [] = refl
+  flatMap-ones f (a ∷ l) = rw (flatMap-ones f l)
+
 module _ {A B C : Type 0} where
   pub flatMap-map : (f : B → List C) (g : A → B) (l : List A) → flatMap f (map g l) ≡ flatMap (λ a. f (g a)) l
   unfolding flatMap

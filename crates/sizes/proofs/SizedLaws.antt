@@ -13,7 +13,7 @@ use Rattle.seq.specs.Lists.{sum}
 use Rattle.grid.specs.Values.{Rect}
 use Rattle.grid.specs.Arrays.{rectsOf}
 use Rattle.grid.proofs.EntryLaws.{length-rects}
-use Rattle.grid.proofs.SizeLaws.{innerCount}
+use Rattle.grid.specs.Layout.{innerCount}
 use Rattle.entries.specs.Writing.{Inside}
 use Rattle.sizes.specs.Sized.{Measurable}
 

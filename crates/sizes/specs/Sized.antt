@@ -6,8 +6,8 @@ use mathlib.Core.List.{List, List·Memᴰ}
 use lib.Dec.{ltb}
 use lib.ListN.{length, getD}
 use Rattle.grid.specs.Values.{Rect}
+use Rattle.grid.specs.Layout.{innerCount}
 use Rattle.grid.specs.Arrays.{rectsOf}
-use Rattle.grid.proofs.SizeLaws.{innerCount}
 use Rattle.entries.specs.Edges.{Collected, rowLinesBelow, columnLinesBelow}
 use Rattle.entries.specs.Writing.{Inside}
 use Rattle.sizes.specs.declared.Sizes.{Sizes}

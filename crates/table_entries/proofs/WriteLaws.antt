@@ -11,6 +11,7 @@ use lib.ListN.{length, take, drop, getD, set, length-append, length-drop}
 use lib.Seq.{length-take-le}
 use mir.Syntax.{w8}
 use mir.Val.{Fits}
+use Rattle.seq.proofs.FlatMaps.{flatMap-ones}
 use Rattle.seq.proofs.Entries.{Written, none-written, all-written, write-sets}
 use Rattle.grid.specs.Answer.{over}
 use Rattle.grid.specs.Values.{Rect}
@@ -22,7 +23,6 @@ use Rattle.entries.specs.declared.Parts.{Parts}
 use Rattle.entries.specs.Writing.{linesHeld, Rising, sectionFrom, Numbered}
 use Rattle.entries.proofs.WriteLaws.{nobody, length-pairs, pair-at, AllNumbered, all-numbered, span-next}
 use Rattle.pieces.specs.Text.{CountedBy}
-use Rattle.pieces.proofs.LineLaws.{flatMap-ones}
 use Rattle.pieces.proofs.TotalLaws.{counted-here}
 use Rattle.table_rules.specs.Entries.{sectionEntries, tableEntry, tableEntries}
 

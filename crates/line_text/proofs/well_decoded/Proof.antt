@@ -1,12 +1,12 @@
 use Prim.Native.Nat.{_≤_, _-_}
-use mathlib.Core.Path.{_≡_}
+use mathlib.Core.Path.{_≡_, sym, _∙_}
 use borrow.Author.Needs.{needs}
 use native.Mathlib.Omega.{arith}
 use lib.ListN.{length, drop}
 use Rattle.text.specs.Utf8.{wellFrom, wellFormed}
 use Rattle.text.proofs.Utf8Laws.{well-on, size-fits, ill-formed, well-to-the-end}
-use Rattle.utf8.proofs.well_decoded.Statement.{statement}
-use Rattle.utf8.proofs.well_decoded.Tie as tie
+use Rattle.line_text.proofs.well_decoded.Statement.{statement}
+use Rattle.line_text.proofs.well_decoded.Tie as tie
 
 abbrev Inv-loop : tie.InvT-loop
 Inv-loop line at₀ at = (at ≤ length line) × (wellFormed line ≡ wellFrom 0 (drop at line))
@@ -30,14 +30,14 @@ returns : tie.Need-returns Inv-loop μ-loop
 returns c = search ill-formed
 
 add-at : tie.Need-add-at Inv-loop μ-loop
-add-at c = omega (arith, size-fits (c .before .before .before .before .before .before .before .args .line .now) (c .before .before .before .before .before .loop .at) _ (c .before .before .before .decode .ensures) _ _ (c .before .size .given .1))
+add-at c = omega (arith, size-fits (c .before .before .before .before .before .before .before .args .line .now) (c .before .before .before .before .before .loop .at) _ _ (sym (c .before .before .before .decode .ensures) ∙ c .before .size .given .1))
 
 loop-less : tie.Need-loop-less Inv-loop μ-loop
-loop-less c = omega (arith, size-fits (c .before .before .before .before .before .before .before .args .line .now) (c .before .before .before .before .before .loop .at) _ (c .before .before .before .decode .ensures) _ _ (c .before .size .given .1))
+loop-less c = omega (arith, size-fits (c .before .before .before .before .before .before .before .args .line .now) (c .before .before .before .before .before .loop .at) _ _ (sym (c .before .before .before .decode .ensures) ∙ c .before .size .given .1))
 
 loop-again : tie.Need-loop-again Inv-loop μ-loop
 loop-again c = (
-  omega (arith, size-fits (c .before .before .before .before .before .before .before .args .line .now) (c .before .before .before .before .before .loop .at) _ (c .before .before .before .decode .ensures) _ _ (c .before .size .given .1)),
+  omega (arith, size-fits (c .before .before .before .before .before .before .before .args .line .now) (c .before .before .before .before .before .loop .at) _ _ (sym (c .before .before .before .decode .ensures) ∙ c .before .size .given .1)),
   well-on (c .before .before .before .before .before .before .before .args .line .now) (c .before .before .before .before .before .loop .at) _ (c .before .before .before .decode .ensures) _ _ (c .before .size .given .1) (c .before .before .before .before .before .loop .inv .1),
 )
 

@@ -2,6 +2,7 @@
 use characters::span_in_set;
 use glyphs::fill_plain;
 use glyphs::put_slots;
+use line_text::Known;
 use line_text::is_plain;
 use line_text::known_character;
 use text::ByteAt;
@@ -32,13 +33,13 @@ fn fill_decoded(
     let mut byte = 0;
     let mut n = 0;
     while byte < line.len() {
-        let next = known_character(line, ByteAt(byte));
-        let count = span_in_set(next.value, Column(first + n));
+        let Known { value, size } = known_character(line, ByteAt(byte));
+        let count = span_in_set(value, Column(first + n));
         if width < n + count {
             return false;
         }
-        put_slots(glyphs, offsets, at + n, count, rule, next.value, byte as u16);
-        byte += next.size;
+        put_slots(glyphs, offsets, at + n, count, rule, value, byte as u16);
+        byte += size;
         n += count;
     }
     n == width

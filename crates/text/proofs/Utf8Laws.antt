@@ -1,6 +1,6 @@
 -- Laws of specs/Utf8.antt.
 -- Assumes nothing.
-use Prim.Native.Nat.{ℕ, zero, suc, _+_, _-_, _≤_, _<_}
+use Prim.Native.Nat.{ℕ, zero, suc, _+_, _-_, _^_, _≤_, _<_}
 use mathlib.Core.Path.{_≡_, refl, sym, ap, _∙_}
 use mathlib.Core.Logic.{_⊎_, inl, inr, ⊎-elim}
 use mathlib.Core.Bool.{Bool, true, false, _&&_, cond}
@@ -259,8 +259,21 @@ module _ (s : List ℕ) (at : ℕ) where
 
 -- what the code's loop over a line says
 module _ (s : List ℕ) (at : ℕ) (d : Decoded) (is : d ≡ character (drop at s)) where
-  pub well-on : (v k : ℕ) → d ≡ Character v k → wellFormed s ≡ wellFrom 0 (drop at s) → wellFormed s ≡ wellFrom 0 (drop (at + k) s)
-  well-on v k e so-far = so-far ∙ well-next s at v k (cc)
+  module _ (v k : ℕ) (e : d ≡ Character v k) where
+    fits : (1 ≤ k) × (at + k ≤ length s)
+    fits = size-fits s at v k (sym is ∙ e)
+
+    pub well-on : wellFormed s ≡ wellFrom 0 (drop at s) → wellFormed s ≡ wellFrom 0 (drop (at + k) s)
+    well-on so-far = so-far ∙ well-next s at v k (sym is ∙ e)
+
+    pub end-inside : at + k ≤ length s
+    end-inside = fits .1
+
+    pub end-fits : length s < 2 ^ 64 → at + k < 2 ^ 64
+    end-fits short = omega (arith, fits)
+
+    pub fewer-left : length s - (at + k) < length s - at
+    fewer-left = omega (arith, fits)
 
   pub ill-formed : d ≡ Refused → at < length s → wellFormed s ≡ wellFrom 0 (drop at s) → false ≡ wellFormed s
   ill-formed e inside so-far = sym (so-far ∙ well-not s at (cc) inside)

@@ -45,8 +45,8 @@ fn fill_decoded(
     n == width
 }
 
-// Writes the slots of a trimmed line from index at on, and answers whether they fill the width. In a
-// plain line each byte is a slot.
+// Writes the slots of a trimmed line from index at on, and answers whether they fill the width. In
+// a plain line each byte is a slot.
 pub fn fill_line(
     line: &[u8],
     rule: bool,

@@ -60,8 +60,8 @@ pub fn well_formed(line: &[u8]) -> bool
     well_decoded(line)
 }
 
-// The character at a place of a line that is UTF-8 from there on. The first byte alone is judged, as
-// by Rust's char_indices.
+// The character at a place of a line that is UTF-8 of the set from there on. Its first byte alone
+// is judged, as by Rust's char_indices.
 pub fn known_character(line: &[u8], at: ByteAt) -> Known
     requires { ⌜ (at .0 < length (now line)) × (wellFormed (drop (at .0) (now line)) ≡ true) ⌝ }
     ensures { λ r. ⌜ character (drop (at .0) (now (line .entry))) ≡ Character (r .value) (r .size) ⌝ }

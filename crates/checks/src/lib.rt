@@ -1,5 +1,5 @@
 // Reading's checks 13 and 3, before the slots; the Rust has neither.
-use utf8::well_formed;
+use line_text::well_formed;
 ghost use mathlib.Core.Path.{_≡_};
 ghost use mathlib.Core.Bool.{not};
 ghost use lib.ListN.{length};

@@ -2,7 +2,7 @@
 -- Assumes nothing.
 use Prim.Native.Nat.{ℕ, suc, _+_, _-_, _*_, _≤_, _<_}
 use mathlib.Core.Path.{_≡_, refl, ap, _∙_}
-use mathlib.Core.Bool.{Bool, true, false, not, _&&_, _||_, cond}
+use mathlib.Core.Bool.{Bool, true, false, _&&_, _||_, cond}
 use mathlib.Core.Logic.{⊎-elim}
 use mathlib.Core.List.{List, [], _∷_, map, List·Memᴰ}
 use native.Mathlib.Omega.{arith}
@@ -11,12 +11,11 @@ use native.Mathlib.Numerals.{add-one}
 use lib.Dec.{eqb}
 use lib.ListN.{length, getD, drop, length-map}
 use lib.Seq.{getD-drop}
-use borrow.Author.Tests.{eqb-true, not-false}
+use borrow.Author.Tests.{eqb-true}
 use Rattle.seq.specs.Lists.{range, upTo, sum}
 use Rattle.seq.proofs.Tests.{and-left, or-cases, le-or-lt}
 use Rattle.seq.proofs.ListsLaws.{within-below, drop-step}
 use Rattle.seq.proofs.Ranges.{range-mem, length-range}
-use Rattle.seq.proofs.Searches.{firstAt-none}
 use Rattle.seq.proofs.Positions.{getD-mem, getD-map}
 use Rattle.seq.proofs.Sums.{sum-le, sum-each, sum-distances, sum-first}
 use Rattle.text.specs.Characters.{space, tab, tabColumns}
@@ -28,10 +27,9 @@ use Rattle.grid.specs.Slots.{Grid, gridOf, byteAt}
 use Rattle.grid.specs.Layout.{contentAt, innerLines, innerCount}
 use Rattle.grid.specs.Cut.{part, afterFirst, cut}
 use Rattle.grid.specs.Cover.{Cover}
-use Rattle.grid.specs.Read.{outsideSet}
 use Rattle.grid.proofs.ReadLaws.{Passed, height-of, read-cover, read-limited, read-narrow}
 use Rattle.grid.proofs.SeparatorLaws.{row-filled}
-use Rattle.grid.proofs.SlotLaws.{rows-length}
+use Rattle.grid.proofs.SlotLaws.{line-well, rows-length}
 use Rattle.grid.proofs.ByteLaws.{slot-in-line, border-byte, bytes-climb}
 use Rattle.grid.proofs.SquareSums.{rectWeight, gridWeight, cover-weight}
 use Rattle.grid.proofs.CutLaws.{cut-shorter}
@@ -86,12 +84,6 @@ module _ (lines : List Line) (rs : List Rect) (checks : Passed lines rs) where
 
   text-short : (y : ℕ) → y < length lines → length (textAt y) ≤ 512
   text-short y h = read-limited checks .shortLines (getD-mem lines y (record { text = []; column = 0 }) h)
-
-  text-well : (y : ℕ) → y < length lines → wellFormed (textAt y) ≡ true
-  unfolding outsideSet
-  text-well y h =
-      not-false (wellFormed (textAt y))
-      (firstAt-none (λ (line : Line). not (wellFormed (line .text))) 0 lines (checks .inSet) (getD-mem lines y (record { text = []; column = 0 }) h))
 
   -- ---- how many lines
   rect-lines : (r : Rect) → List·Memᴰ r rs → r .bottom - r .top - 1 ≤ rectWeight (λ y x. 1) r
@@ -209,6 +201,6 @@ module _ (lines : List Line) (rs : List Rect) (checks : Passed lines rs) where
         let (above, below) : (r .top ≤ y) × (y ≤ r .bottom) = omega (arith, inner) in
         first-well (trimEnd (part (contentAt g r y) (textAt y))) y (0 + contentAt g r y .start) _
         (well-trimmed (part (contentAt g r y) (textAt y))
-        (part-well (textAt y) (byteAt g y (r .left)) (byteAt g y (r .right)) (text-well y low) (slot-in-line lines y (r .left) low left-inside)
+        (part-well (textAt y) (byteAt g y (r .left)) (byteAt g y (r .right)) (line-well lines (checks .inSet) y low) (slot-in-line lines y (r .left) low left-inside)
         (border-byte lines y (r .left) low left-inside (b .leftSide y above below))
         (border-byte lines y (r .right) low right-inside (b .rightSide y above below))))

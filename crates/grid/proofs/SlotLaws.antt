@@ -2,22 +2,24 @@
 -- Assumes nothing.
 use Prim.Native.Nat.{ℕ, zero, suc, _<_}
 use mathlib.Core.Path.{_≡_, refl, ap, _∙_}
-use mathlib.Core.Bool.{false, not, _||_}
+use mathlib.Core.Bool.{true, false, not, _||_}
 use mathlib.Core.Option.{none, some}
 use mathlib.Core.List.{List, [], _∷_}
 use native.Mathlib.Omega.{arith}
 use lib.Dec.{eqb}
 use lib.ListN.{length, getD, take, drop, length-map}
 use lib.Seq.{drop-drop}
-use borrow.Author.Tests.{eq-eqb}
+use borrow.Author.Tests.{eq-eqb, not-false}
 use Rattle.seq.specs.Lists.{sum, upTo}
 use Rattle.seq.proofs.Ranges.{length-range}
-use Rattle.seq.proofs.Positions.{getD-made}
+use Rattle.seq.proofs.Positions.{getD-mem, getD-made}
+use Rattle.seq.proofs.Searches.{firstAt-none}
 use Rattle.seq.proofs.Gathered.{first-at, first-nowhere}
+use Rattle.text.specs.Utf8.{wellFormed}
 use Rattle.grid.specs.Values.{Line}
 use Rattle.grid.specs.Slots.{Slot, lineSlots, isSeparator, gridOf}
 use Rattle.grid.specs.Flat.{splitText, linesWith}
-use Rattle.grid.specs.Read.{wrongWidth}
+use Rattle.grid.specs.Read.{outsideSet, wrongWidth}
 
 -- ---- lines from lengths, columns and a text
 pub lines-length : (lengths columns text : List ℕ) → length (linesWith (splitText lengths text) columns) ≡ length lengths
@@ -36,6 +38,13 @@ line-at [] columns text y d h = absurd (omega arith)
 line-at (n ∷ ns) columns text zero d h = refl
 line-at (n ∷ ns) columns text (suc y) d h =
     line-at ns (drop 1 columns) (drop n text) y d (omega arith) ∙ rw (drop-drop (sum (take y ns)) n text, next-column columns y)
+
+-- check 3 passed, each line is well formed
+pub line-well : (lines : List Line) → outsideSet lines ≡ none → (y : ℕ) → y < length lines → wellFormed (getD lines y (record { text = []; column = 0 }) .text) ≡ true
+unfolding outsideSet
+line-well lines e y h =
+    not-false (wellFormed (getD lines y (record { text = []; column = 0 }) .text))
+    (firstAt-none (λ (line : Line). not (wellFormed (line .text))) 0 lines e (getD-mem lines y (record { text = []; column = 0 }) h))
 
 -- ---- the rows of a drawing's grid
 module _ (lines : List Line) where

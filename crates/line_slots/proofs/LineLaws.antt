@@ -2,7 +2,7 @@
 -- Assumes nothing.
 use Prim.Native.Nat.{ℕ, zero, suc, _+_, _-_, _^_, _≤_, _<_}
 use mathlib.Core.Path.{_≡_, refl, sym, ap, _∙_}
-use mathlib.Core.Bool.{Bool, false}
+use mathlib.Core.Bool.{Bool, true, false}
 use mathlib.Core.List.{List, [], _∷_, _++_, map, map-append}
 use native.Mathlib.Omega.{arith}
 use native.Mathlib.Nat.{add-zero, add-assoc}
@@ -11,11 +11,10 @@ use lib.ListN.{length, take, drop, replicate, length-append, length-drop, length
 use lib.Seq.{take-at, drop-at, drop-drop, take-add, take-all, length-take-le}
 use borrow.Author.Tests.{ne-eqb}
 use Rattle.seq.proofs.Tests.{true-not-false}
-use Rattle.text.specs.declared.Decoded.{Decoded}
-use Rattle.text.specs.declared.Decoded.the-variants.{Character, Refused}
+use Rattle.text.specs.declared.Decoded.the-variants.{Character}
 use Rattle.text.specs.Characters.{span}
-use Rattle.text.specs.Utf8.{character, charsFrom, charIndices}
-use Rattle.text.proofs.Utf8Laws.{chars-next, chars-end, size-fits}
+use Rattle.text.specs.Utf8.{character, charsFrom, charIndices, wellFormed}
+use Rattle.text.proofs.Utf8Laws.{chars-next, well-next, size-fits}
 use Rattle.text.proofs.CharactersLaws.{span-four-columns-at-most}
 use Rattle.grid.specs.Slots.{Slot, glyphOf, slotsFrom}
 use Rattle.grid.specs.Arrays.{glyphCode, glyphCodes, slotBytes}
@@ -64,6 +63,7 @@ slotsOf line rule first = slotsFrom rule first (charIndices line)
 -- the characters before `byte` are written, in n slots
 pub record LineSoFar (line : List ℕ) (rule : Bool) (first at width : ℕ) (glyphs₀ offsets₀ glyphs offsets : List ℕ) (byte n : ℕ) : Type 0 where
   pub inLine : byte ≤ length line
+  pub well : wellFormed (drop byte line) ≡ true
   pub fits : n ≤ width
   pub inside : n ≤ length (slotsOf line rule first)
   pub left : drop n (slotsOf line rule first) ≡ slotsFrom rule (first + n) (charsFrom byte 0 (drop byte line))
@@ -72,10 +72,11 @@ pub record LineSoFar (line : List ℕ) (rule : Bool) (first at width : ℕ) (gly
   pub glyphsHold : glyphs ≡ replaced glyphs₀ at (glyphCodes (take n (slotsOf line rule first)))
   pub offsetsHold : offsets ≡ replaced offsets₀ at (slotBytes (take n (slotsOf line rule first)))
 
-pub line-starts : (line : List ℕ) (rule : Bool) (first at width : ℕ) (glyphs offsets : List ℕ) → LineSoFar line rule first at width glyphs offsets glyphs offsets 0 0
-line-starts line rule first at width glyphs offsets =
+pub line-starts : (line : List ℕ) (rule : Bool) (first at width : ℕ) (glyphs offsets : List ℕ) → wellFormed line ≡ true → LineSoFar line rule first at width glyphs offsets glyphs offsets 0 0
+line-starts line rule first at width glyphs offsets well =
     record {
       inLine = omega arith;
+      well = well;
       fits = omega arith;
       inside = omega arith;
       left = rw (add-zero first);
@@ -87,12 +88,11 @@ line-starts line rule first at width glyphs offsets =
 
 module _ (line : List ℕ) (rule : Bool) (first at width : ℕ) (glyphs₀ offsets₀ glyphs offsets : List ℕ) (byte n : ℕ)
     (so-far : LineSoFar line rule first at width glyphs₀ offsets₀ glyphs offsets byte n) where
-  -- no characters are left
-  no-more : charsFrom byte 0 (drop byte line) ≡ [] → LineFilled (slotsOf line rule first) at width glyphs₀ offsets₀ glyphs offsets (eqb n width)
-  unfolding slotsFrom
-  no-more e =
+  pub line-done : length line ≤ byte → LineFilled (slotsOf line rule first) at width glyphs₀ offsets₀ glyphs offsets (eqb n width)
+  unfolding charsFrom slotsFrom
+  line-done h =
       let slots = slotsOf line rule first in
-      let none : drop n slots ≡ [] = so-far .left ∙ rw e in
+      let none : drop n slots ≡ [] = so-far .left ∙ rw (drop-of-length-le line h) in
       let long : length slots ≡ n = omega (arith, length-drop n slots, ap length none) in
       let whole : take n slots ≡ slots = take-all n slots (omega arith) in
       record {
@@ -103,61 +103,54 @@ module _ (line : List ℕ) (rule : Bool) (first at width : ℕ) (glyphs₀ offse
         offsetsHold = λ full. so-far .offsetsHold ∙ ap (λ (l : List Slot). replaced offsets₀ at (slotBytes l)) whole;
       }
 
-  pub line-done : length line ≤ byte → LineFilled (slotsOf line rule first) at width glyphs₀ offsets₀ glyphs offsets (eqb n width)
-  unfolding charsFrom
-  line-done h = no-more (ap (charsFrom byte 0) (drop-of-length-le line h))
+  module _ (value size count : ℕ) (is : character (drop byte line) ≡ Character value size) (spans : count ≡ span (first + n) value) where
+    next : drop n (slotsOf line rule first) ≡ replicate count (record { glyph = glyphOf rule value; byte = byte }) ++ slotsFrom rule (first + (n + count)) (charsFrom (byte + size) 0 (drop (byte + size) line))
+    unfolding slotsFrom
+    next = so-far .left ∙ rw (chars-next line byte value size is, ← spans, add-assoc)
 
-  module _ (d : Decoded) (is : d ≡ character (drop byte line)) where
-    pub line-refused : d ≡ Refused → LineFilled (slotsOf line rule first) at width glyphs₀ offsets₀ glyphs offsets (eqb n width)
-    line-refused e = no-more (chars-end line byte (sym is ∙ e))
+    pub line-over : width < n + count → LineFilled (slotsOf line rule first) at width glyphs₀ offsets₀ glyphs offsets false
+    line-over h =
+        let long = slots-inside (slotsOf line rule first) _ _ n count (so-far .inside) next in
+        record {
+          glyphsKept = so-far .glyphsKept;
+          offsetsKept = so-far .offsetsKept;
+          answer = sym (ne-eqb (length (slotsOf line rule first)) width (λ e. omega arith));
+          glyphsHold = λ full. absurd (true-not-false (sym full));
+          offsetsHold = λ full. absurd (true-not-false (sym full));
+        }
 
-    module _ (value size count : ℕ) (known : d ≡ Character value size) (spans : count ≡ span (first + n) value) where
-      next : drop n (slotsOf line rule first) ≡ replicate count (record { glyph = glyphOf rule value; byte = byte }) ++ slotsFrom rule (first + (n + count)) (charsFrom (byte + size) 0 (drop (byte + size) line))
-      unfolding slotsFrom
-      next = so-far .left ∙ rw (chars-next line byte value size (sym is ∙ known), ← spans, add-assoc)
-
-      pub line-over : width < n + count → LineFilled (slotsOf line rule first) at width glyphs₀ offsets₀ glyphs offsets false
-      line-over h =
-          let long = slots-inside (slotsOf line rule first) _ _ n count (so-far .inside) next in
-          record {
-            glyphsKept = so-far .glyphsKept;
-            offsetsKept = so-far .offsetsKept;
-            answer = sym (ne-eqb (length (slotsOf line rule first)) width (λ e. omega arith));
-            glyphsHold = λ full. absurd (true-not-false (sym full));
-            offsetsHold = λ full. absurd (true-not-false (sym full));
-          }
-
-      pub line-next : (glyphs′ offsets′ : List ℕ) → n + count ≤ width → at + width ≤ length glyphs₀ → at + width ≤ length offsets₀
-          → glyphs′ ≡ replaced glyphs (at + n) (replicate count (glyphCode (glyphOf rule value))) → offsets′ ≡ replaced offsets (at + n) (replicate count byte)
-          → LineSoFar line rule first at width glyphs₀ offsets₀ glyphs′ offsets′ (byte + size) (n + count)
-      line-next glyphs′ offsets′ fits room room′ put put′ =
-          let slots = slotsOf line rule first in
-          let slot : Slot = record { glyph = glyphOf rule value; byte = byte } in
-          let rest = slotsFrom rule (first + (n + count)) (charsFrom (byte + size) 0 (drop (byte + size) line)) in
-          let (glyphs-kept, glyphs-hold) =
-          array-next slots rest slot n count (so-far .inside) next (λ s. glyphCode (s .glyph)) at glyphs₀ glyphs glyphs′ (omega arith)
-          (so-far .glyphsKept) (so-far .glyphsHold) put in
-          let (offsets-kept, offsets-hold) =
-          array-next slots rest slot n count (so-far .inside) next (λ s. s .byte) at offsets₀ offsets offsets′ (omega arith)
-          (so-far .offsetsKept) (so-far .offsetsHold) put′ in
-          record {
-            inLine = size-fits line byte d is value size known .1;
-            fits = fits;
-            inside = slots-inside slots rest slot n count (so-far .inside) next;
-            left = slots-left slots rest slot n count (so-far .inside) next;
-            glyphsKept = glyphs-kept;
-            offsetsKept = offsets-kept;
-            glyphsHold = glyphs-hold;
-            offsetsHold = offsets-hold;
-          }
+    pub line-next : (glyphs′ offsets′ : List ℕ) → n + count ≤ width → at + width ≤ length glyphs₀ → at + width ≤ length offsets₀
+        → glyphs′ ≡ replaced glyphs (at + n) (replicate count (glyphCode (glyphOf rule value))) → offsets′ ≡ replaced offsets (at + n) (replicate count byte)
+        → LineSoFar line rule first at width glyphs₀ offsets₀ glyphs′ offsets′ (byte + size) (n + count)
+    line-next glyphs′ offsets′ fits room room′ put put′ =
+        let slots = slotsOf line rule first in
+        let slot : Slot = record { glyph = glyphOf rule value; byte = byte } in
+        let rest = slotsFrom rule (first + (n + count)) (charsFrom (byte + size) 0 (drop (byte + size) line)) in
+        let (glyphs-kept, glyphs-hold) =
+        array-next slots rest slot n count (so-far .inside) next (λ s. glyphCode (s .glyph)) at glyphs₀ glyphs glyphs′ (omega arith)
+        (so-far .glyphsKept) (so-far .glyphsHold) put in
+        let (offsets-kept, offsets-hold) =
+        array-next slots rest slot n count (so-far .inside) next (λ s. s .byte) at offsets₀ offsets offsets′ (omega arith)
+        (so-far .offsetsKept) (so-far .offsetsHold) put′ in
+        record {
+          inLine = size-fits line byte value size is .1;
+          well = sym (well-next line byte value size is) ∙ so-far .well;
+          fits = fits;
+          inside = slots-inside slots rest slot n count (so-far .inside) next;
+          left = slots-left slots rest slot n count (so-far .inside) next;
+          glyphsKept = glyphs-kept;
+          offsetsKept = offsets-kept;
+          glyphsHold = glyphs-hold;
+          offsetsHold = offsets-hold;
+        }
 
 -- ---- what the code adds up fits, and the bytes left get fewer
 pub columns-fit : (column value n count width : ℕ) → count ≡ span column value → n ≤ width → width ≤ 128 → n + count < 2 ^ 64
 columns-fit column value n count width is inside narrow = omega (arith, span-four-columns-at-most column value)
 
-module _ (line : List ℕ) (byte : ℕ) (d : Decoded) (is : d ≡ character (drop byte line)) (value size : ℕ) (known : d ≡ Character value size) where
+module _ (line : List ℕ) (byte value size : ℕ) (is : character (drop byte line) ≡ Character value size) where
   pub bytes-fit : length line ≤ 512 → byte + size < 2 ^ 64
-  bytes-fit h = omega (arith, size-fits line byte d is value size known .1)
+  bytes-fit h = omega (arith, size-fits line byte value size is .1)
 
   pub bytes-left : length line - (byte + size) < length line - byte
-  bytes-left = let (some, fits) = size-fits line byte d is value size known in omega arith
+  bytes-left = let (some, fits) = size-fits line byte value size is in omega arith

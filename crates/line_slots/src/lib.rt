@@ -2,14 +2,16 @@
 use characters::span_in_set;
 use glyphs::fill_plain;
 use glyphs::put_slots;
+use line_text::Known;
+use line_text::is_plain;
+use line_text::known_character;
 use text::ByteAt;
 use text::Column;
-use text::Decoded;
-use utf8::decode;
-use utf8::is_plain;
 ghost use Prim.Native.Nat.{_+_, _≤_};
+ghost use mathlib.Core.Path.{_≡_};
+ghost use mathlib.Core.Bool.{true};
 ghost use lib.ListN.{length};
-ghost use Rattle.text.specs.Utf8.{charIndices};
+ghost use Rattle.text.specs.Utf8.{charIndices, wellFormed};
 ghost use Rattle.grid.specs.Slots.{slotsFrom};
 ghost use Rattle.line_slots.specs.Line.{LineFilled};
 
@@ -23,7 +25,7 @@ fn fill_decoded(
     glyphs: &mut [u8],
     offsets: &mut [u16],
 ) -> bool
-    requires { ⌜ (column .0 ≤ 255) × (length (now line) ≤ 512) × (width ≤ 128) ⌝ }
+    requires { ⌜ (column .0 ≤ 255) × (length (now line) ≤ 512) × (wellFormed (now line) ≡ true) × (width ≤ 128) ⌝ }
     requires { ⌜ (at + width ≤ length (now glyphs)) × (at + width ≤ length (now offsets)) ⌝ }
     ensures { λ r. ⌜ LineFilled (slotsFrom rule (column .0) (charIndices (now (line .entry)))) at width (now (glyphs .entry)) (now (offsets .entry)) (now (glyphs .exit)) (now (offsets .exit)) r ⌝ }
 {
@@ -31,9 +33,7 @@ fn fill_decoded(
     let mut byte = 0;
     let mut n = 0;
     while byte < line.len() {
-        let Decoded::Character { value, size } = decode(line, ByteAt(byte)) else {
-            return n == width;
-        };
+        let Known { value, size } = known_character(line, ByteAt(byte));
         let count = span_in_set(value, Column(first + n));
         if width < n + count {
             return false;
@@ -45,8 +45,8 @@ fn fill_decoded(
     n == width
 }
 
-// Writes the slots of a trimmed line from index at on, and answers whether they fill the width. In a
-// plain line each byte is a slot.
+// Writes the slots of a trimmed line from index at on, and answers whether they fill the width. In
+// a plain line each byte is a slot.
 pub fn fill_line(
     line: &[u8],
     rule: bool,
@@ -56,7 +56,7 @@ pub fn fill_line(
     glyphs: &mut [u8],
     offsets: &mut [u16],
 ) -> bool
-    requires { ⌜ (column .0 ≤ 255) × (length (now line) ≤ 512) × (width ≤ 128) ⌝ }
+    requires { ⌜ (column .0 ≤ 255) × (length (now line) ≤ 512) × (wellFormed (now line) ≡ true) × (width ≤ 128) ⌝ }
     requires { ⌜ (at + width ≤ length (now glyphs)) × (at + width ≤ length (now offsets)) ⌝ }
     ensures { λ r. ⌜ LineFilled (slotsFrom rule (column .0) (charIndices (now (line .entry)))) at width (now (glyphs .entry)) (now (offsets .entry)) (now (glyphs .exit)) (now (offsets .exit)) r ⌝ }
 {

@@ -3,6 +3,7 @@
 use Prim.Native.Nat.{ℕ, zero, suc, _≤_}
 use mathlib.Core.Path.{_≡_, refl, sym}
 use mathlib.Core.Bool.{false, _||_}
+use mathlib.Core.Option.{none}
 use mathlib.Core.List.{List, [], _∷_}
 use native.Mathlib.Omega.{arith}
 use lib.Dec.{ltb}
@@ -32,7 +33,7 @@ none-over-limit limit (n ∷ ns) e (suc i) = none-over-limit limit ns (or-neithe
 
 -- ---- a drawing whose width is answered
 module _ (lines bytes : ℕ) (lengths columns text : List ℕ) (width : ℕ) (e : accept width ≡ widthAnswer (drawing lines bytes lengths columns text)) where
-  checks : (drawingContradicts (drawing lines bytes lengths columns text) ≡ false) × (drawingTooLarge (linesFrom lengths columns text) ≡ false)
+  checks : (drawingContradicts (drawing lines bytes lengths columns text) ≡ false) × (drawingTooLarge (linesFrom lengths columns text) ≡ false) × (outsideSet (linesFrom lengths columns text) ≡ none)
       × (ltb maxWidth (length (trimmedAt (linesFrom lengths columns text) 0)) ≡ false) × (width ≡ length (trimmedAt (linesFrom lengths columns text) 0))
   unfolding widthAnswer linesOf
   checks =
@@ -51,7 +52,7 @@ module _ (lines bytes : ℕ) (lengths columns text : List ℕ) (width : ℕ) (e 
       let p4 = passed-if (noRule all) 4 wide width (p3 .1) in
       let pw = passed-if (ltb maxWidth (length (trimmedAt all 0))) 2 last width (p4 .1) in
       let same : _≡_ last (accept width) = pw .1 in
-      (p0 .0, p2 .0, pw .0, cc)
+      (p0 .0, p2 .0, p3 .0, pw .0, cc)
 
   agreed : Agree lengths columns text
   agreed = agrees lines bytes lengths columns text false (sym (checks .0)) refl
@@ -74,16 +75,17 @@ module _ (lines bytes : ℕ) (lengths columns text : List ℕ) (width : ℕ) (e 
         fewLines = ltb-false maxLines (length lengths) (limits .0);
         shortLines = none-over-limit maxLineBytes lengths (limits .1);
         nearColumns = none-over-limit maxOrigin columns (limits .2);
+        inSet = checks .2;
       }
 
   pub bytes-few : length text ≤ maxBytes
   bytes-few = ltb-false maxBytes (length text) (limits .3)
 
   pub width-told : width ≡ length (trimmedAt (linesFrom lengths columns text) 0)
-  width-told = checks .3
+  width-told = checks .4
 
   pub width-fits : width ≤ 128
-  width-fits = omega (arith, checks .3, ltb-false maxWidth (length (trimmedAt (linesFrom lengths columns text) 0)) (checks .2))
+  width-fits = omega (arith, checks .4, ltb-false maxWidth (length (trimmedAt (linesFrom lengths columns text) 0)) (checks .3))
 
 -- ---- working space that is not short
 module _ (glyphs offsets down right rects : List ℕ) (enough : spaceShort (spaces glyphs offsets down right rects) ≡ false) where

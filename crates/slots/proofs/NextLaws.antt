@@ -9,10 +9,11 @@ use native.Mathlib.Numerals.{add-one}
 use lib.Dec.{eqb, ltb}
 use lib.ListN.{length, take, set}
 use lib.Seq.{take-suc-set}
-use Rattle.text.specs.Utf8.{charIndices}
+use Rattle.text.specs.Utf8.{charIndices, wellFormed}
 use Rattle.text.specs.Trim.{trimEnd}
 use Rattle.text.specs.Rule.{isRule}
 use Rattle.text.proofs.TrimLaws.{trim-shorter}
+use Rattle.text.proofs.PartLaws.{well-trimmed}
 use Rattle.grid.specs.Slots.{slotsFrom, lineSlots}
 use Rattle.line_slots.specs.Line.{LineFilled}
 use Rattle.slots.specs.Filling.{separates, separatorLines, NextFilled}
@@ -30,6 +31,9 @@ module _ (array : List ℕ) (n v : ℕ) (t : Bool) where
 module _ (text line : List ℕ) (trimmed : line ≡ trimEnd text) where
   pub trimmed-short : length text ≤ 512 → length line ≤ 512
   trimmed-short h = omega (arith, ap length trimmed, trim-shorter text)
+
+  pub trimmed-well : wellFormed text ≡ true → wellFormed line ≡ true
+  trimmed-well h = rw trimmed (well-trimmed text h)
 
   pub next-filled : (column y width : ℕ) (separators separators′ : Separators) (separator full : Bool) (glyphs offsets glyphs′ offsets′ : List ℕ)
       → separator ≡ (ltb 0 y && isRule 0x3d line)

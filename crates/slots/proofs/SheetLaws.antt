@@ -20,7 +20,7 @@ use Rattle.grid.specs.Flat.{linesFrom}
 use Rattle.grid.specs.Values.{Line}
 use Rattle.grid.specs.Slots.{Slot, lineSlots, isSeparator, trimmedAt, gridOf}
 use Rattle.grid.specs.Arrays.{glyphCode, glyphCodes, slotBytes, Roomy}
-use Rattle.grid.proofs.SlotLaws.{lines-length, line-at, rowAt, rows-length, row-at, wrong-row, no-wrong-row}
+use Rattle.grid.proofs.SlotLaws.{lines-length, line-at, line-well, rowAt, rows-length, row-at, wrong-row, no-wrong-row}
 use Rattle.slots.specs.declared.Separators.{Separators}
 use Rattle.slots.specs.declared.Filled.{Filled}
 use Rattle.slots.specs.Filling.{Sheet, separates, separatorLines, NextRoom, NextFilled, AllFilled}
@@ -88,26 +88,27 @@ module _ (lengths columns text : List ℕ) (width : ℕ) (glyphs₀ offsets₀ g
   pub line-fits : length text * 1 < 2 ^ 63 → at + getD lengths y 0 < 2 ^ 64
   line-fits small = omega (arith, sum-within lengths y)
 
-  pub next-room : y < length lengths → Roomy (length lengths) width glyphs₀ offsets₀
-      → NextRoom (take (at + getD lengths y 0 - at) (drop at text)) (getD columns y 0) y width separators glyphs offsets
-  next-room h room =
-      record {
-        nearColumn = sheet .nearColumns y;
-        shortLine = omega (arith, length-take (at + getD lengths y 0 - at) (drop at text), sheet .shortLines y);
-        narrow = omega arith;
-        fewLines = omega arith;
-        glyphRoom = omega arith;
-        offsetRoom = omega arith;
-        fewSeparators = omega arith;
-        separatorsRoom = so-far .separatorsRoom;
-      }
-
   module _ (h : y < length lengths) where
     the-part : take (at + getD lengths y 0 - at) (drop at text) ≡ take (getD lengths y 0) (drop (sum (take y lengths)) text)
     the-part = let e : at + getD lengths y 0 - at ≡ getD lengths y 0 = omega arith in rw (e, so-far .bytes)
 
     the-line : record { text = take (at + getD lengths y 0 - at) (drop at text); column = getD columns y 0 } ≡ getD (linesFrom lengths columns text) y (record { text = []; column = 0 })
     the-line = rw the-part (sym (line-at lengths columns text y (record { text = []; column = 0 }) h))
+
+    pub next-room : Roomy (length lengths) width glyphs₀ offsets₀
+        → NextRoom (take (at + getD lengths y 0 - at) (drop at text)) (getD columns y 0) y width separators glyphs offsets
+    next-room room =
+        record {
+          nearColumn = sheet .nearColumns y;
+          shortLine = omega (arith, length-take (at + getD lengths y 0 - at) (drop at text), sheet .shortLines y);
+          well = rw (← the-line) at (line-well (linesFrom lengths columns text) (sheet .inSet) y (omega (arith, lines-length lengths columns text)));
+          narrow = omega arith;
+          fewLines = omega arith;
+          glyphRoom = omega arith;
+          offsetRoom = omega arith;
+          fewSeparators = omega arith;
+          separatorsRoom = so-far .separatorsRoom;
+        }
 
     separator-is : separates y (take (at + getD lengths y 0 - at) (drop at text)) ≡ isSeparator (linesFrom lengths columns text) y
     unfolding isSeparator

@@ -7,22 +7,25 @@ use mathlib.Core.Option.{none, some}
 use lib.ListN.{length, take, getD}
 use lib.Dec.{eqb, ltb}
 use Rattle.seq.specs.Lists.{sum}
+use Rattle.text.specs.Utf8.{wellFormed}
 use Rattle.text.specs.Rule.{isRule}
 use Rattle.text.specs.Trim.{trimEnd}
 use Rattle.grid.specs.Slots.{Grid, equals, lineSlots}
-use Rattle.grid.specs.Read.{wrongWidth}
+use Rattle.grid.specs.Flat.{linesFrom}
+use Rattle.grid.specs.Read.{outsideSet, wrongWidth}
 use Rattle.grid.specs.Arrays.{Holds}
 use Rattle.line_slots.specs.Line.{LineFilled}
 use Rattle.slots.specs.declared.Separators.{Separators}
 use Rattle.slots.specs.declared.Filled.{Filled}
 
--- arrays that agree, within the limits
+-- arrays that agree, within the limits, with every character in the set
 pub record Sheet (lengths columns text : List ℕ) : Type 0 where
   pub columnsAgree : length columns ≡ length lengths
   pub bytesAgree : sum lengths ≡ length text
   pub fewLines : length lengths ≤ 128
   pub shortLines : (y : ℕ) → getD lengths y 0 ≤ 512
   pub nearColumns : (y : ℕ) → getD columns y 0 ≤ 255
+  pub inSet : outsideSet (linesFrom lengths columns text) ≡ none
 
 -- the separators that an array holds
 abbrev pub separatorLines : Separators → List ℕ
@@ -32,10 +35,11 @@ separatorLines s = take (s .count) (s .lines)
 abbrev pub separates : ℕ → List ℕ → Bool
 separates y text = ltb 0 y && isRule equals (trimEnd text)
 
--- line y, within the limits, with room in the arrays for its slots and its separator
+-- line y, within the limits and the set, with room in the arrays for its slots and its separator
 pub record NextRoom (text : List ℕ) (column y width : ℕ) (separators : Separators) (glyphs offsets : List ℕ) : Type 0 where
   pub nearColumn : column ≤ 255
   pub shortLine : length text ≤ 512
+  pub well : wellFormed text ≡ true
   pub narrow : width ≤ 128
   pub fewLines : y < 128
   pub glyphRoom : y * 128 + width ≤ length glyphs

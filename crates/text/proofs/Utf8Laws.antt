@@ -1,6 +1,6 @@
 -- Laws of specs/Utf8.antt.
 -- Assumes nothing.
-use Prim.Native.Nat.{ℕ, zero, suc, _+_, _-_, _≤_, _<_}
+use Prim.Native.Nat.{ℕ, zero, suc, _+_, _-_, _^_, _≤_, _<_}
 use mathlib.Core.Path.{_≡_, refl, sym, ap, _∙_}
 use mathlib.Core.Logic.{_⊎_, inl, inr, ⊎-elim}
 use mathlib.Core.Bool.{Bool, true, false, _&&_, cond}
@@ -10,7 +10,7 @@ use native.Mathlib.Omega.{arith}
 use lib.Dec.{leb, ltb}
 use lib.ListN.{length, drop, getD, length-drop, drop-of-length-le}
 use lib.Seq.{getD-drop, drop-drop}
-use borrow.Author.Tests.{leb-true, lt-ltb, le-ltb}
+use borrow.Author.Tests.{ltb-true, leb-true, lt-ltb, le-ltb}
 use Rattle.seq.proofs.Tests.{true-not-false, both-true}
 use Rattle.seq.specs.Lists.{within}
 use Rattle.seq.proofs.ListsLaws.{within-low, read-some, drop-step}
@@ -102,44 +102,54 @@ known : (t : Bool) (w n v k : ℕ) → characterIf t w n ≡ Character v k → (
 known true w n v k e = (refl, cc, cc)
 known false w n v k e = absurd (let z : _≡_ {A = ℕ} 0 1 = cc in omega arith)
 
--- of the first three bytes and the character that they make
-record Made (a b c v k : ℕ) : Type 0 where
-  in-set : inSet v ≡ true
-  last-byte : ((k ≡ 1) × (a ≡ v)) ⊎ (((k ≡ 2) × (continues b ≡ true) × (0x80 ≤ v)) ⊎ ((k ≡ 3) × (continues c ≡ true) × (0x80 ≤ v) × (continues b ≡ true)))
+-- of the first three bytes and the character that they make: the first one's range says how many
+abbrev OfOne : ℕ → ℕ → ℕ → Type 0
+OfOne a v k = (k ≡ 1) × (a ≡ v) × (a < 0x80)
+
+abbrev OfTwo : ℕ → ℕ → ℕ → ℕ → Type 0
+OfTwo a b v k = (k ≡ 2) × (twoBytes a b ≡ v) × (within 0xc0 0xdf a ≡ true) × (continues b ≡ true) × (0x80 ≤ v)
+
+abbrev OfThree : ℕ → ℕ → ℕ → ℕ → ℕ → Type 0
+OfThree a b c v k = (k ≡ 3) × (threeBytes a b c ≡ v) × (within 0xe0 0xef a ≡ true) × (continues b ≡ true) × (continues c ≡ true) × (0x80 ≤ v)
+
+pub record Made (a b c v k : ℕ) : Type 0 where
+  pub in-set : inSet v ≡ true
+  pub bytes : OfOne a v k ⊎ (OfTwo a b v k ⊎ OfThree a b c v k)
 
 module _ (a b c v k : ℕ) where
-  made-of-one : characterIf (inSet a) a 1 ≡ Character v k → Made a b c v k
-  made-of-one e =
+  made-of-one : ltb a 0x80 ≡ true → characterIf (inSet a) a 1 ≡ Character v k → Made a b c v k
+  made-of-one low e =
       let (t, w, n) = known (inSet a) a 1 v k e in
-      record { in-set = rw w at t; last-byte = inl (sym n, w) }
+      record { in-set = rw w at t; bytes = inl (sym n, w, ltb-true a 0x80 low) }
 
-  made-of-two : fromTwo a b ≡ Character v k → Made a b c v k
+  made-of-two : within 0xc0 0xdf a ≡ true → fromTwo a b ≡ Character v k → Made a b c v k
   unfolding fromTwo
-  made-of-two e =
+  made-of-two first e =
       let w = twoBytes a b in
       let (t, same, n) = known (continues b && (leb 0x80 w && inSet w)) w 2 v k e in
-      let (goes-on, rest) = both-true (continues b) (leb 0x80 w && inSet w) t in
+      let (second, rest) = both-true (continues b) (leb 0x80 w && inSet w) t in
       let (large, in-set) = both-true (leb 0x80 w) (inSet w) rest in
-      record { in-set = rw same at in-set; last-byte = inr (inl (sym n, goes-on, omega (arith, leb-true 0x80 w large))) }
+      record { in-set = rw same at in-set; bytes = inr (inl (sym n, same, first, second, omega (arith, leb-true 0x80 w large))) }
 
-  made-of-three : fromThree a b c ≡ Character v k → Made a b c v k
+  made-of-three : within 0xe0 0xef a ≡ true → fromThree a b c ≡ Character v k → Made a b c v k
   unfolding fromThree
-  made-of-three e =
+  made-of-three first e =
       let w = threeBytes a b c in
       let (t, same, n) = known (continues b && (continues c && (leb 0x800 w && inSet w))) w 3 v k e in
       let (second, later) = both-true (continues b) (continues c && (leb 0x800 w && inSet w)) t in
-      let (goes-on, rest) = both-true (continues c) (leb 0x800 w && inSet w) later in
+      let (third, rest) = both-true (continues c) (leb 0x800 w && inSet w) later in
       let (large, in-set) = both-true (leb 0x800 w) (inSet w) rest in
-      record { in-set = rw same at in-set; last-byte = inr (inr (sym n, goes-on, omega (arith, leb-true 0x800 w large), second)) }
+      record { in-set = rw same at in-set; bytes = inr (inr (sym n, same, first, second, third, omega (arith, leb-true 0x800 w large))) }
 
   made : decoded a b c ≡ Character v k → Made a b c v k
   unfolding decoded
-  made = go (ltb a 0x80) (within 0xc0 0xdf a) (within 0xe0 0xef a) where
-    go : (one two three : Bool) → cond one (characterIf (inSet a) a 1) (cond two (fromTwo a b) (cond three (fromThree a b c) Refused)) ≡ Character v k → Made a b c v k
-    go true two three e = made-of-one e
-    go false true three e = made-of-two e
-    go false false true e = made-of-three e
-    go false false false e = absurd (let z : _≡_ {A = ℕ} 0 1 = cc in omega arith)
+  made = go (ltb a 0x80) refl (within 0xc0 0xdf a) refl (within 0xe0 0xef a) refl where
+    go : (one : Bool) → ltb a 0x80 ≡ one → (two : Bool) → within 0xc0 0xdf a ≡ two → (three : Bool) → within 0xe0 0xef a ≡ three
+        → cond one (characterIf (inSet a) a 1) (cond two (fromTwo a b) (cond three (fromThree a b c) Refused)) ≡ Character v k → Made a b c v k
+    go true f two g three h e = made-of-one f e
+    go false f true g three h e = made-of-two g e
+    go false f false g true h e = made-of-three h e
+    go false f false g false h e = absurd (let z : _≡_ {A = ℕ} 0 1 = cc in omega arith)
 
 decoded-kept : (a b c b′ c′ v k : ℕ) → decoded a b c ≡ Character v k → (1 < k → b′ ≡ b) → (2 < k → c′ ≡ c) → decoded a b′ c′ ≡ Character v k
 unfolding decoded fromTwo fromThree
@@ -165,7 +175,7 @@ unfolding inSet widthOf
 set-some v e z = true-not-false (sym e ∙ rw z)
 
 module _ (s : List ℕ) (v k : ℕ) (e : character s ≡ Character v k) where
-  of-bytes : Made (getD s 0 0) (getD s 1 0) (getD s 2 0) v k
+  pub of-bytes : Made (getD s 0 0) (getD s 1 0) (getD s 2 0) v k
   unfolding character
   of-bytes = made (getD s 0 0) (getD s 1 0) (getD s 2 0) v k e
 
@@ -173,27 +183,27 @@ module _ (s : List ℕ) (v k : ℕ) (e : character s ≡ Character v k) where
   character-in-set = of-bytes .in-set
 
   pub character-some-byte : 1 ≤ k
-  character-some-byte = ⊎-elim (λ h. omega arith) (⊎-elim (λ h. omega arith) (λ h. omega arith)) (of-bytes .last-byte)
+  character-some-byte = ⊎-elim (λ h. omega arith) (⊎-elim (λ h. omega arith) (λ h. omega arith)) (of-bytes .bytes)
 
   pub character-fits : k ≤ length s
   character-fits =
       ⊎-elim
       (λ h. omega (arith, read-some s 0 (λ z. set-some v character-in-set (sym (h .1) ∙ z))))
       (⊎-elim
-      (λ h. omega (arith, read-some s 1 (goes-on-some (getD s 1 0) (h .1))))
-      (λ h. omega (arith, read-some s 2 (goes-on-some (getD s 2 0) (h .1)))))
-      (of-bytes .last-byte)
+      (λ h. omega (arith, read-some s 1 (goes-on-some (getD s 1 0) (h .3))))
+      (λ h. omega (arith, read-some s 2 (goes-on-some (getD s 2 0) (h .4)))))
+      (of-bytes .bytes)
 
   -- the bytes after its first go on with it
   pub character-goes-on : (i : ℕ) → 1 ≤ i → i < k → continues (getD s i 0) ≡ true
   character-goes-on i low high =
       ⊎-elim (λ h. absurd (omega arith))
-      (⊎-elim (λ h. let one : i ≡ 1 = omega arith in rw one (h .1))
-      (λ h. ⊎-elim (λ (one : 1 ≡ i). rw (← one) (h .3)) (λ (more : 1 < i). let two : i ≡ 2 = omega arith in rw two (h .1)) (eq-or-lt-of-le low)))
-      (of-bytes .last-byte)
+      (⊎-elim (λ h. let one : i ≡ 1 = omega arith in rw one (h .3))
+      (λ h. ⊎-elim (λ (one : 1 ≡ i). rw (← one) (h .3)) (λ (more : 1 < i). let two : i ≡ 2 = omega arith in rw two (h .4)) (eq-or-lt-of-le low)))
+      (of-bytes .bytes)
 
   pub character-one-byte : v < 0x80 → getD s 0 0 ≡ v
-  character-one-byte low = ⊎-elim (λ h. h .1) (⊎-elim (λ h. absurd (omega arith)) (λ h. absurd (omega arith))) (of-bytes .last-byte)
+  character-one-byte low = ⊎-elim (λ h. h .1) (⊎-elim (λ h. absurd (omega arith)) (λ h. absurd (omega arith))) (of-bytes .bytes)
 
   -- and what follows them has no part in it
   pub character-kept : (t : List ℕ) → ((i : ℕ) → i < k → getD t i 0 ≡ getD s i 0) → character t ≡ Character v k
@@ -221,14 +231,19 @@ well-skip (suc skip) (b ∷ bs) = well-skip skip bs
 
 module _ (s : List ℕ) (at : ℕ) where
   module _ (v k : ℕ) (e : character (drop at s) ≡ Character v k) where
+    pub size-fits : (1 ≤ k) × (at + k ≤ length s)
+    size-fits =
+        let some = character-some-byte (drop at s) v k e in
+        (some, omega (arith, rw length-drop at (character-fits (drop at s) v k e)))
+
     inside : at < length s
-    inside = omega (arith, rw length-drop at (character-fits (drop at s) v k e), character-some-byte (drop at s) v k e)
+    inside = omega (arith, size-fits)
 
     here : character (getD s at 0 ∷ drop (at + 1) s) ≡ Character v k
     here = rw (drop-step s at inside) at e
 
     past : at + 1 + (k - 1) ≡ at + k
-    past = omega (arith, character-some-byte (drop at s) v k e)
+    past = omega (arith, size-fits)
 
     pub chars-next : charsFrom at 0 (drop at s) ≡ record { byte = at; value = v } ∷ charsFrom (at + k) 0 (drop (at + k) s)
     unfolding charsFrom
@@ -238,32 +253,27 @@ module _ (s : List ℕ) (at : ℕ) where
     unfolding wellFrom
     well-next = rw (drop-step s at inside, here, well-skip (k - 1) (drop (at + 1) s), drop-drop (k - 1) (at + 1) s, past)
 
-  module _ (e : character (drop at s) ≡ Refused) where
-    pub chars-end : charsFrom at 0 (drop at s) ≡ []
-    unfolding charsFrom
-    chars-end = go (drop at s) e where
-      go : (t : List ℕ) → character t ≡ Refused → charsFrom at 0 t ≡ []
-      go [] e = refl
-      go (b ∷ bs) e = rw e
-
-    pub well-not : at < length s → wellFrom 0 (drop at s) ≡ false
-    unfolding wellFrom
-    well-not h = rw (drop-step s at h, rw (drop-step s at h) at e)
+  pub well-not : character (drop at s) ≡ Refused → at < length s → wellFrom 0 (drop at s) ≡ false
+  unfolding wellFrom
+  well-not e h = rw (drop-step s at h, rw (drop-step s at h) at e)
 
 -- what the code's loop over a line says
 module _ (s : List ℕ) (at : ℕ) (d : Decoded) (is : d ≡ character (drop at s)) where
-  pub well-on : (v k : ℕ) → d ≡ Character v k → wellFormed s ≡ wellFrom 0 (drop at s) → wellFormed s ≡ wellFrom 0 (drop (at + k) s)
-  well-on v k e so-far = so-far ∙ well-next s at v k (cc)
+  module _ (v k : ℕ) (e : d ≡ Character v k) where
+    fits : (1 ≤ k) × (at + k ≤ length s)
+    fits = size-fits s at v k (sym is ∙ e)
 
-  pub size-fits : (v k : ℕ) → d ≡ Character v k → (1 ≤ k) × (at + k ≤ length s)
-  size-fits v k e =
-      let h : character (drop at s) ≡ Character v k = cc in (
-        character-some-byte (drop at s) v k h,
-        omega (arith, rw length-drop at (character-fits (drop at s) v k h), character-some-byte (drop at s) v k h),
-      )
+    pub well-on : wellFormed s ≡ wellFrom 0 (drop at s) → wellFormed s ≡ wellFrom 0 (drop (at + k) s)
+    well-on so-far = so-far ∙ well-next s at v k (sym is ∙ e)
 
-  pub known-in-set : (v k : ℕ) → d ≡ Character v k → inSet v ≡ true
-  known-in-set v k e = character-in-set (drop at s) v k (cc)
+    pub end-inside : at + k ≤ length s
+    end-inside = fits .1
+
+    pub end-fits : length s < 2 ^ 64 → at + k < 2 ^ 64
+    end-fits short = omega (arith, fits)
+
+    pub fewer-left : length s - (at + k) < length s - at
+    fewer-left = omega (arith, fits)
 
   pub ill-formed : d ≡ Refused → at < length s → wellFormed s ≡ wellFrom 0 (drop at s) → false ≡ wellFormed s
   ill-formed e inside so-far = sym (so-far ∙ well-not s at (cc) inside)

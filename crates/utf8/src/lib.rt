@@ -1,4 +1,4 @@
-// UTF-8, for the characters of the set.
+// UTF-8, for the characters of the set: the character at a place of a line.
 use characters::in_set;
 use characters::in_set_of_three;
 use characters::in_set_of_two;
@@ -8,8 +8,7 @@ use text::Decoded;
 ghost use mathlib.Core.Path.{_≡_};
 ghost use Prim.Native.Nat.{_≤_, _<_};
 ghost use lib.ListN.{drop, getD};
-ghost use Rattle.seq.specs.Lists.{within as withinRange};
-ghost use Rattle.text.specs.Utf8.{character, characterIf, continues, fromTwo, fromThree, wellFormed, plain};
+ghost use Rattle.text.specs.Utf8.{character, characterIf, continues, fromTwo, fromThree};
 
 // 0 past the end: it goes on with no character and is none of the set.
 fn byte_or_zero(text: &[u8], i: usize) -> u8
@@ -83,48 +82,4 @@ pub fn decode(text: &[u8], at: ByteAt) -> Decoded
         return from_three(a, b, c);
     }
     Decoded::Refused
-}
-
-fn is_plain_byte(b: u8) -> bool
-    ensures { λ r. ⌜ r ≡ withinRange 0x20 0x7e b ⌝ }
-{
-    (0x20 <= b) & (b <= 0x7e)
-}
-
-// Are all characters of a line from 20 to 7E? No byte ends the loop, so that many are tested at a
-// time.
-pub fn is_plain(line: &[u8]) -> bool
-    ensures { λ r. ⌜ r ≡ plain (now (line .entry)) ⌝ }
-{
-    let mut all = true;
-    let mut i = 0;
-    while i < line.len() {
-        all = all & is_plain_byte(line[i]);
-        i += 1;
-    }
-    all
-}
-
-// well_formed, character by character.
-fn well_decoded(line: &[u8]) -> bool
-    ensures { λ r. ⌜ r ≡ wellFormed (now (line .entry)) ⌝ }
-{
-    let mut at = 0;
-    while at < line.len() {
-        let Decoded::Character { value: _, size } = decode(line, ByteAt(at)) else {
-            return false;
-        };
-        at += size;
-    }
-    true
-}
-
-// Is a line UTF-8 throughout, with each of its characters in the set?
-pub fn well_formed(line: &[u8]) -> bool
-    ensures { λ r. ⌜ r ≡ wellFormed (now (line .entry)) ⌝ }
-{
-    if is_plain(line) {
-        return true;
-    }
-    well_decoded(line)
 }

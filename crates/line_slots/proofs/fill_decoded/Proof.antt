@@ -3,8 +3,8 @@
 use Prim.Native.Nat.{_-_}
 use borrow.Author.Needs.{needs}
 use lib.ListN.{length}
-use Rattle.text.proofs.Utf8Laws.{known-in-set}
-use Rattle.line_slots.proofs.LineLaws.{LineSoFar, line-starts, line-done, line-refused, line-over, line-next, columns-fit, bytes-fit, bytes-left}
+use Rattle.text.proofs.Utf8Laws.{character-in-set}
+use Rattle.line_slots.proofs.LineLaws.{LineSoFar, line-starts, line-done, line-over, line-next, columns-fit, bytes-fit, bytes-left}
 use Rattle.line_slots.proofs.fill_decoded.Statement.{statement}
 use Rattle.line_slots.proofs.fill_decoded.Tie as tie
 
@@ -17,14 +17,17 @@ abbrev μ-loop : tie.MeasureT-loop
 loop-holds : tie.Need-loop-holds Inv-loop μ-loop
 loop-holds c = search line-starts
 
-decode-requires : tie.Need-decode-requires Inv-loop μ-loop
-decode-requires c κs = search needs
+known-character-requires : tie.Need-known-character-requires Inv-loop μ-loop
+known-character-requires c κs = search needs
 
-enum-known-value : tie.Need-enum-known-value Inv-loop μ-loop
-enum-known-value c = search needs
+add-if1 : tie.Need-add-if1 Inv-loop μ-loop
+add-if1 c = search needs
 
-enum-told : tie.Need-enum-told Inv-loop μ-loop
-enum-told c = search needs
+span-in-set-requires : tie.Need-span-in-set-requires Inv-loop μ-loop
+span-in-set-requires c κs = search character-in-set
+
+add-if1-2 : tie.Need-add-if1-2 Inv-loop μ-loop
+add-if1-2 c = search columns-fit
 
 same-length : tie.Need-same-length Inv-loop μ-loop
 same-length c = search needs
@@ -33,25 +36,7 @@ same-length-2 : tie.Need-same-length-2 Inv-loop μ-loop
 same-length-2 c = search needs
 
 returns : tie.Need-returns Inv-loop μ-loop
-returns c = search line-refused
-
-add-if1 : tie.Need-add-if1 Inv-loop μ-loop
-add-if1 c = search needs
-
-span-in-set-requires : tie.Need-span-in-set-requires Inv-loop μ-loop
-span-in-set-requires c κs = search known-in-set
-
-add-if1-2 : tie.Need-add-if1-2 Inv-loop μ-loop
-add-if1-2 c = search columns-fit
-
-same-length-3 : tie.Need-same-length-3 Inv-loop μ-loop
-same-length-3 c = search needs
-
-same-length-4 : tie.Need-same-length-4 Inv-loop μ-loop
-same-length-4 c = search needs
-
-returns-2 : tie.Need-returns-2 Inv-loop μ-loop
-returns-2 c = search line-over
+returns c = search line-over
 
 add-put-slots : tie.Need-add-put-slots Inv-loop μ-loop
 add-put-slots c = search needs
@@ -74,14 +59,14 @@ loop-less c = search bytes-left
 loop-again : tie.Need-loop-again Inv-loop μ-loop
 loop-again c = search line-next
 
-same-length-5 : tie.Need-same-length-5 Inv-loop μ-loop
-same-length-5 c = search needs
+same-length-3 : tie.Need-same-length-3 Inv-loop μ-loop
+same-length-3 c = search needs
 
-same-length-6 : tie.Need-same-length-6 Inv-loop μ-loop
-same-length-6 c = search needs
+same-length-4 : tie.Need-same-length-4 Inv-loop μ-loop
+same-length-4 c = search needs
 
-returns-3 : tie.Need-returns-3 Inv-loop μ-loop
-returns-3 c = search line-done
+returns-2 : tie.Need-returns-2 Inv-loop μ-loop
+returns-2 c = search line-done
 
 pub fill-decoded-spec : {M : Type 1} → statement M
 fill-decoded-spec =
@@ -90,18 +75,13 @@ fill-decoded-spec =
     Inv-loop
     μ-loop
     loop-holds
-    decode-requires
-    enum-known-value
-    enum-told
-    same-length
-    same-length-2
-    returns
+    known-character-requires
     add-if1
     span-in-set-requires
     add-if1-2
-    same-length-3
-    same-length-4
-    returns-2
+    same-length
+    same-length-2
+    returns
     add-put-slots
     cast-put-slots
     put-slots-requires
@@ -109,6 +89,6 @@ fill-decoded-spec =
     add-n
     loop-less
     loop-again
-    same-length-5
-    same-length-6
-    returns-3)
+    same-length-3
+    same-length-4
+    returns-2)

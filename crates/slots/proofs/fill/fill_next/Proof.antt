@@ -1,7 +1,7 @@
 -- `slots::fill::fill_next` meets its contract: from its four calls.
 -- Assumes nothing.
 use borrow.Author.Needs.{needs}
-use Rattle.slots.proofs.NextLaws.{trimmed-short, next-filled}
+use Rattle.slots.proofs.NextLaws.{trimmed-short, trimmed-well, next-filled}
 use Rattle.slots.proofs.fill.fill_next.Statement.{statement}
 use Rattle.slots.proofs.fill.fill_next.Tie as tie
 
@@ -15,7 +15,7 @@ mul-fill-line : tie.Need-mul-fill-line
 mul-fill-line c = search needs
 
 fill-line-requires : tie.Need-fill-line-requires
-fill-line-requires c κs = search trimmed-short
+fill-line-requires c κs = search (trimmed-short, trimmed-well)
 
 noted-requires : tie.Need-noted-requires
 noted-requires c κs = search needs

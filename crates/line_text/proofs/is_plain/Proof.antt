@@ -1,4 +1,4 @@
--- `utf8::is_plain` meets its contract: the invariant: the whole line is plain where the bytes before i and those from i on are.
+-- `line_text::is_plain` meets its contract: the invariant: the whole line is plain where the bytes before i and those from i on are.
 -- Assumes nothing.
 use Prim.Native.Nat.{_-_, _≤_}
 use mathlib.Core.Path.{_≡_}
@@ -7,8 +7,8 @@ use borrow.Author.Needs.{needs}
 use lib.ListN.{length, drop}
 use Rattle.text.specs.Utf8.{plain}
 use Rattle.text.proofs.PlainLaws.{plain-next, plain-ends}
-use Rattle.utf8.proofs.is_plain.Statement.{statement}
-use Rattle.utf8.proofs.is_plain.Tie as tie
+use Rattle.line_text.proofs.is_plain.Statement.{statement}
+use Rattle.line_text.proofs.is_plain.Tie as tie
 
 abbrev Inv-loop : tie.InvT-loop
 Inv-loop line all₀ i₀ all i = (i ≤ length line) × (plain line ≡ (all && plain (drop i line)))

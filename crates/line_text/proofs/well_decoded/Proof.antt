@@ -1,12 +1,13 @@
+-- `line_text::well_decoded` meets its contract: the invariant: the line is well formed where the bytes from `at` on are.
+-- Assumes nothing.
 use Prim.Native.Nat.{_≤_, _-_}
 use mathlib.Core.Path.{_≡_}
 use borrow.Author.Needs.{needs}
-use native.Mathlib.Omega.{arith}
 use lib.ListN.{length, drop}
 use Rattle.text.specs.Utf8.{wellFrom, wellFormed}
-use Rattle.text.proofs.Utf8Laws.{well-on, size-fits, ill-formed, well-to-the-end}
-use Rattle.utf8.proofs.well_decoded.Statement.{statement}
-use Rattle.utf8.proofs.well_decoded.Tie as tie
+use Rattle.text.proofs.Utf8Laws.{well-on, end-inside, end-fits, fewer-left, ill-formed, well-to-the-end}
+use Rattle.line_text.proofs.well_decoded.Statement.{statement}
+use Rattle.line_text.proofs.well_decoded.Tie as tie
 
 abbrev Inv-loop : tie.InvT-loop
 Inv-loop line at₀ at = (at ≤ length line) × (wellFormed line ≡ wellFrom 0 (drop at line))
@@ -30,16 +31,13 @@ returns : tie.Need-returns Inv-loop μ-loop
 returns c = search ill-formed
 
 add-at : tie.Need-add-at Inv-loop μ-loop
-add-at c = omega (arith, size-fits (c .before .before .before .before .before .before .before .args .line .now) (c .before .before .before .before .before .loop .at) _ (c .before .before .before .decode .ensures) _ _ (c .before .size .given .1))
+add-at c = search (needs, end-fits)
 
 loop-less : tie.Need-loop-less Inv-loop μ-loop
-loop-less c = omega (arith, size-fits (c .before .before .before .before .before .before .before .args .line .now) (c .before .before .before .before .before .loop .at) _ (c .before .before .before .decode .ensures) _ _ (c .before .size .given .1))
+loop-less c = search (needs, fewer-left)
 
 loop-again : tie.Need-loop-again Inv-loop μ-loop
-loop-again c = (
-  omega (arith, size-fits (c .before .before .before .before .before .before .before .args .line .now) (c .before .before .before .before .before .loop .at) _ (c .before .before .before .decode .ensures) _ _ (c .before .size .given .1)),
-  well-on (c .before .before .before .before .before .before .before .args .line .now) (c .before .before .before .before .before .loop .at) _ (c .before .before .before .decode .ensures) _ _ (c .before .size .given .1) (c .before .before .before .before .before .loop .inv .1),
-)
+loop-again c = search (needs, end-inside, well-on)
 
 returns-2 : tie.Need-returns-2 Inv-loop μ-loop
 returns-2 c = search well-to-the-end

@@ -1,9 +1,9 @@
--- `utf8::well_formed` meets its contract: a plain line is well formed.
+-- `line_text::well_formed` meets its contract: a plain line is well formed.
 -- Assumes nothing.
 use borrow.Author.Needs.{needs}
 use Rattle.text.proofs.PlainLaws.{plain-well}
-use Rattle.utf8.proofs.well_formed.Statement.{statement}
-use Rattle.utf8.proofs.well_formed.Tie as tie
+use Rattle.line_text.proofs.well_formed.Statement.{statement}
+use Rattle.line_text.proofs.well_formed.Tie as tie
 
 is-plain-requires : tie.Need-is-plain-requires
 is-plain-requires c κs = search needs

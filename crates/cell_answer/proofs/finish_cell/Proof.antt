@@ -56,13 +56,13 @@ cast-right : tie.Need-cast-right
 cast-right c = fits-8-64 (c .shared-slice-known9 .given _)
 
 sub-count : tie.Need-sub-count
-sub-count c = ordered _ _ _ _ _ _ _ _ (c .before .before .before .before .before .before .before .before .before .before .before .before .pre) (c .before .before .before .before .if1 .left)
+sub-count c = search ordered
 
 sub-count-2 : tie.Need-sub-count-2
-sub-count-2 c = some-lines _ _ _ _ _ _ _ _ (c .before .before .before .before .before .before .before .before .before .before .before .before .pre) (c .before .before .before .before .if1 .left)
+sub-count-2 c = search some-lines
 
 mul-if2 : tie.Need-mul-if2
-mul-if2 c = entries-fit _ _ _ _ _ _ _ _ (c .before .before .before .before .before .before .before .before .before .before .before .before .pre) (c .before .before .before .before .if1 .left)
+mul-if2 c = search entries-fit
 
 returns-2 : tie.Need-returns-2
 returns-2 c = refused-cuts _ _ _ _ _ _ _ _ (c .before .before .before .before .before .before .before .before .before .before .before .before .before .pre) (c .before .before .before .before .before .if1 .left) _ (c .if2 .taken)
@@ -71,10 +71,10 @@ line-starts-requires : tie.Need-line-starts-requires
 line-starts-requires c κs = search needs
 
 write-cuts-requires : tie.Need-write-cuts-requires
-write-cuts-requires c κs = (ready-cell _ _ _ _ _ _ _ _ (c .before .before .before .before .before .before .before .before .before .before .before .before .before .before .before .before .before .before .before .pre) (c .before .before .before .before .before .before .before .before .before .before .before .if1 .left) _ (c .before .before .before .before .line-starts .ensures), (framed-cell _ _ _ _ _ _ _ _ (c .before .before .before .before .before .before .before .before .before .before .before .before .before .before .before .before .before .before .before .pre) (c .before .before .before .before .before .before .before .before .before .before .before .if1 .left) _, c .before .before .before .before .before .before .if2 .left))
+write-cuts-requires c κs = search (ready-cell, framed-cell)
 
 same-length : tie.Need-same-length
-same-length c = c .before .before .before .before .before .before .before .line-starts .kept .1 .0
+same-length c = search needs
 
 same-length-2 : tie.Need-same-length-2
 same-length-2 c = c .before .before .write-cuts .kept .1 .1 .1 .1 .1 .1 .1 .1 .1 .0

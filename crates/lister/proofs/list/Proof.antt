@@ -53,13 +53,13 @@ same-length : tie.Need-same-length
 same-length c = search needs
 
 returns : tie.Need-returns
-returns c = prints-as (c .before .before .refused .ensures) (large-listed _ _ _ _ (c .before .before .before .before .enum-told .given .1) (c .before .before .before .before .before .before .before .before .split-lines .ensures .1))
+returns c = prints-as (c .before .before .refused .ensures) (search large-listed)
 
 same-length-2 : tie.Need-same-length-2
 same-length-2 c = search needs
 
 returns-2 : tie.Need-returns-2
-returns-2 c = prints-as (c .before .before .list-lines .ensures) (held-listed _ _ _ _ _ _ (c .before .before .before .before .before .before .before .before .before .lines .given .1) (c .before .before .before .before .before .before .before .before .before .before .before .before .before .split-lines .ensures .1))
+returns-2 c = prints-as (c .before .before .list-lines .ensures) (search held-listed)
 
 pub list-spec : {M : Type 1} → statement M
 list-spec =

@@ -18,7 +18,7 @@ same-length-2 : tie.Need-same-length-2
 same-length-2 c = search needs
 
 returns : tie.Need-returns
-returns c = prepared _ _ _ _ _ _ _ _ (c .before .before .before .before .before .before .before .before .before .before .before .before .before .before .before .before .pre) _ (c .before .before .before .before .before .before .before .line-starts .ensures) _ _ (c .before .before .measure .ensures)
+returns c = search prepared
 
 pub prepare-spec : {M : Type 1} → statement M
 prepare-spec =

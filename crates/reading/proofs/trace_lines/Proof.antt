@@ -1,6 +1,5 @@
 -- `reading::trace_lines` meets its contract: what the callees ensure, put together.
 -- Assumes nothing.
-use mathlib.Core.Path.{refl}
 use borrow.Author.Needs.{needs}
 use Rattle.reading.proofs.ThroughLaws.{unfilled, traced-through}
 use Rattle.reading.proofs.trace_lines.Statement.{statement}
@@ -16,11 +15,7 @@ same-length-2 : tie.Need-same-length-2
 same-length-2 c = search needs
 
 returns : tie.Need-returns
-returns c =
-    let filled = c .before .before .before .before .before .before .before in
-    let pre = filled .before .before .before .before .before .before .before .before .before .before .before .pre in
-    let all = filled .fill .ensures in
-    ((all .glyphsKept, all .offsetsKept, refl), unfilled _ _ _ _ all (pre .1 .1 .1) (c .if1 .taken))
+returns c = search unfilled
 
 reach-right-requires : tie.Need-reach-right-requires
 reach-right-requires c κs = search needs

@@ -1,6 +1,5 @@
 -- `replay_layout::answer_with` is safe and ends.
 -- Assumes nothing.
-use Prim.Native.Nat.{_-_}
 use Rattle.replaying.proofs.PartLaws.{part-kept}
 use borrow.Author.Needs.{needs}
 use Rattle.replay_layout.proofs.answer_with.Statement.{statement}
@@ -91,24 +90,16 @@ layout-requires : tie.Need-layout-requires
 layout-requires c κs = search needs
 
 slice-aggregate-print-answer : tie.Need-slice-aggregate-print-answer
-slice-aggregate-print-answer c =
-    let call = c .before .before .before .before .before .before .before .before .before .before .layout in
-    part-kept 254 (c .before .before .before .before .before .before .before .before .before .before .before .before .before .before .before .before .before .before .before .before .before .before .before .args .f - 0) (call .last .1 .1 .1 .1 .1 .1 .1 .1 .1 .1 .0) (c .before .before .before .before .cols2 .given)
+slice-aggregate-print-answer c = search part-kept
 
 slice-aggregate-print-answer-2 : tie.Need-slice-aggregate-print-answer-2
-slice-aggregate-print-answer-2 c =
-    let call = c .before .before .before .before .before .before .before .before .before .before .before .layout in
-    part-kept 381 (c .before .before .before .before .before .before .before .before .before .before .before .before .before .before .before .before .before .before .before .before .before .before .before .before .args .g - 0) (call .last .1 .1 .1 .1 .1 .1 .1 .1 .1 .1 .1 .0) (c .before .before .before .before .rows2 .given)
+slice-aggregate-print-answer-2 c = search part-kept
 
 slice-aggregate-print-answer-3 : tie.Need-slice-aggregate-print-answer-3
-slice-aggregate-print-answer-3 c =
-    let call = c .before .before .before .before .before .before .before .before .before .before .before .before .layout in
-    part-kept 5120 (c .before .before .before .before .before .before .before .before .before .before .before .before .before .before .before .before .before .before .before .before .before .before .before .before .before .args .h - 0) (call .last .1 .1 .1 .1 .1 .1 .1 .1 .1 .1 .1 .1 .0) (c .before .before .before .before .cells2 .given)
+slice-aggregate-print-answer-3 c = search part-kept
 
 slice-aggregate-print-answer-4 : tie.Need-slice-aggregate-print-answer-4
-slice-aggregate-print-answer-4 c =
-    let call = c .before .before .before .before .before .before .before .before .before .before .before .before .before .layout in
-    part-kept 32768 (c .before .before .before .before .before .before .before .before .before .before .before .before .before .before .before .before .before .before .before .before .before .before .before .before .before .before .args .k - 0) (call .last .1 .1 .1 .1 .1 .1 .1 .1 .1 .1 .1 .1 .1 .0) (c .before .before .before .before .ranges2 .given)
+slice-aggregate-print-answer-4 c = search part-kept
 
 print-answer-requires : tie.Need-print-answer-requires
 print-answer-requires c κs = search needs

@@ -74,7 +74,7 @@ least-requires : tie.Need-least-requires Inv-loop μ-loop Inv-search μ-search
 least-requires c κs = search needs
 
 loop-holds : tie.Need-loop-holds Inv-loop μ-loop Inv-search μ-search
-loop-holds c = let at = c .before .before .before .before .before .search .inv in (at .1, at .3, at .4)
+loop-holds c = search needs
 
 mul-beside : tie.Need-mul-beside Inv-loop μ-loop Inv-search μ-search
 mul-beside c = omega arith

@@ -17,7 +17,7 @@ col-bounds-requires : tie.Need-col-bounds-requires
 col-bounds-requires c κs = search (needs, entries-small, cells-room)
 
 prepare-requires : tie.Need-prepare-requires
-prepare-requires c κs = preparable _ _ _ _ _ _ _ (c .before .before .before .before .before .before .before .before .before .before .before .before .before .before .before .before .before .pre .0) _ _ (c .before .before .before .before .before .before .before .before .before .before .before .before .before .before .before .before .before .pre .1)
+prepare-requires c κs = search preparable
 
 sub-down : tie.Need-sub-down
 sub-down c = down-some _ _ _ _ _ _ _ (c .before .before .before .before .before .before .before .before .before .before .before .before .before .before .before .before .before .before .before .before .before .before .before .pre .0) _ _ (c .before .before .before .before .before .before .before .before .before .row-bounds .ensures) (c .before .before .before .before .before .before .before .before .col-bounds .ensures)

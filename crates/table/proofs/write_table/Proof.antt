@@ -18,7 +18,7 @@ write-sections-requires : tie.Need-write-sections-requires
 write-sections-requires c κs = search (needs, rows-rising, some-row)
 
 write-table-cells-requires : tie.Need-write-table-cells-requires
-write-table-cells-requires c κs = cells-writable _ _ _ _ _ _ _ _ _ _ _ _ (c .before .before .before .before .before .before .before .before .before .before .before .before .before .before .before .before .before .before .before .before .before .before .before .before .before .before .pre)
+write-table-cells-requires c κs = search cells-writable
 
 write-text-requires : tie.Need-write-text-requires
 write-text-requires c κs = text-writable _ _ _ _ _ _ _ _ _ _ _ _ (c .before .before .before .before .before .before .before .before .before .before .before .before .before .before .before .before .before .before .before .before .before .before .before .before .before .before .before .before .before .before .before .pre)

@@ -74,19 +74,13 @@ same-length : tie.Need-same-length
 same-length c = search needs
 
 returns : tie.Need-returns
-returns c =
-    let call = c .before .before .before .before .before .before .before .before .before .before .lines-table in
-    let start = c .before .before .before .before .before .before .before .before .before .before .before .before .before .before .before .before .before in
-    refused-listed (start .args .lengths .now) (start .args .text .now) (call .last .1 .1 .0) (call .last .1 .1 .1 .0) (call .last .1 .1 .1 .1 .0) (call .result) _ _ (c .before .before .before .before .before .number .given .1) (call .ensures) (c .before .before .refused .ensures)
+returns c = search refused-listed
 
 same-length-2 : tie.Need-same-length-2
 same-length-2 c = search needs
 
 returns-2 : tie.Need-returns-2
-returns-2 c =
-    let call = c .before .before .before .before .before .before .before .before .before .before .before .before .before .before .before .before .lines-table in
-    let start = c .before .before .before .before .before .before .before .before .before .before .before .before .before .before .before .before .before .before .before .before .before .before .before in
-    table-listed (start .args .lengths .now) (start .args .text .now) (call .last .1 .1 .0) (call .last .1 .1 .1 .0) (call .last .1 .1 .1 .1 .0) (call .result) _ _ _ _ _ (c .before .before .before .before .before .before .before .before .before .before .before .across .given .1) (call .ensures) (c .before .before .table-cells .ensures)
+returns-2 c = search table-listed
 
 pub list-lines-spec : {M : Type 1} → statement M
 list-lines-spec =

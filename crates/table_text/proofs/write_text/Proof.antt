@@ -73,7 +73,7 @@ loop-less : tie.Need-loop-less Inv-loop μ-loop
 loop-less c = omega arith
 
 loop-again : tie.Need-loop-again Inv-loop μ-loop
-loop-again c = (omega arith, cell-lines _ _ _ _ _ _ _ _ _ _ _ (c .before .before .before .before .before .before .before .before .before .before .before .before .loop .inv .1) (c .before .before .before .before .before .before .before .before .before .before .before .loop-test .taken) _ _ _ (c .before .before .before .before .write-lines .ensures .0) (c .before .before .before .before .write-lines .ensures .1 .0) (c .before .before .before .before .write-lines .ensures .1 .1))
+loop-again c = (omega arith, search cell-lines)
 
 same-length : tie.Need-same-length Inv-loop μ-loop
 same-length c = search needs

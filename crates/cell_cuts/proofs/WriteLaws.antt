@@ -19,7 +19,7 @@ use Rattle.grid.specs.Values.{Rect}
 use Rattle.grid.specs.Layout.{innerLines}
 use Rattle.grid.specs.CutCall.{CutNumbers, cutNumbers}
 use Rattle.grid.specs.TableCall.{fourOf, cutArray}
-use Rattle.cut.specs.declared.Piece.{Piece}
+use Rattle.cut_part.specs.declared.Piece.{Piece}
 use Rattle.pieces.specs.Text.{Source, fragmentBetween, Cuttable, PieceOf, Framed}
 use Rattle.cell_cuts.specs.Cuts.{cutsOf}
 

@@ -1,45 +1,25 @@
 -- Laws of the call in numbers: its checks in their order, and what it accepts.
 -- Assumes nothing.
-use Prim.Native.Nat.{ℕ, _+_, _-_, _≤_}
+use Prim.Native.Nat.{ℕ, _+_, _≤_}
 use mathlib.Core.Path.{_≡_, sym, _∙_}
 use mathlib.Core.Bool.{Bool, true, false, _||_}
 use mathlib.Core.List.{List}
 use native.Mathlib.Omega.{arith}
 use lib.Dec.{ltb}
-use lib.ListN.{length, take, drop, length-take, length-drop}
+use lib.ListN.{length}
 use mir.Syntax.{w64}
 use mir.Val.{Fits}
 use borrow.Author.Needs.{fits-under}
 use borrow.Author.Tests.{ltb-false}
 use Rattle.seq.proofs.Tests.{or-neither}
-use Rattle.text.specs.Trim.{trimEnd}
-use Rattle.text.proofs.TrimLaws.{trim-shorter}
 use Rattle.text.specs.declared.ByteAt.{ByteAt}
 use Rattle.text.specs.declared.Column.{Column}
 use Rattle.grid.specs.Answer.{accept, refuse}
 use Rattle.grid.specs.Limits.{maxLineBytes, maxOrigin, maxLeft, maxRegister}
-use Rattle.grid.specs.Cut.{cut}
-use Rattle.grid.specs.CutCall.{badRange, cutTooLarge, cutAnswer, cutNumbers, cutNumbersAnswer}
+use Rattle.grid.specs.CutCall.{badRange, cutTooLarge, cutAnswer, cutNumbersAnswer}
 use Rattle.grid.proofs.CutLaws.{range-forward, range-inside}
-use Rattle.cut.specs.declared.Start.{Start}
-use Rattle.cut.specs.declared.Piece.{Piece}
-use Rattle.cut.specs.Call.{lineOf, range, Checked, Begins, Pieced}
-
--- trimmed, then cut at its first byte
-pub pieced : (text : List ℕ) (column : Column) (start end : ByteAt) (left : Column) → Checked text column start end left
-    → (trimmed : List ℕ) → trimmed ≡ trimEnd (take (end .0 - start .0) (drop (start .0) text))
-    → (begun : Start) → Begins trimmed start (record { 0 = column .0 + left .0 + 1 }) begun
-    → Pieced text column start end left (record { start = begun .byte; end = record { 0 = start .0 + length trimmed }; column = begun .column })
-unfolding cut cutNumbers
-pieced text column start end left c trimmed told begun begins =
-    let short : length trimmed ≤ end .0 - start .0 =
-    rw told (omega (arith, trim-shorter (take (end .0 - start .0) (drop (start .0) text)), length-take (end .0 - start .0) (drop (start .0) text))) in
-    let over : begun .byte .0 + length (drop (begun .byte .0 - start .0) trimmed) ≡ start .0 + length trimmed =
-    omega (arith, length-drop (begun .byte .0 - start .0) trimmed, begins .inside) in
-    record {
-      numbers = λ line tableByte. let at : tableByte + begun .byte .0 - tableByte ≡ begun .byte .0 = omega arith in rw (← told, begins .begun line tableByte, at, over);
-      within = omega (arith, begins .inside, short, c .forward);
-    }
+use Rattle.cut_part.specs.declared.Piece.{Piece}
+use Rattle.cut_part.specs.Part.{lineOf, range, Checked, Pieced}
 
 module _ (text : List ℕ) (column : Column) (line : ℕ) (tableByte start end : ByteAt) (left : Column) where
   -- ---- the checks

@@ -15,7 +15,8 @@ use Rattle.grid.specs.CutCall.{badRange, cutAnswer, CutNumbers, cutNumbers, cut
 use Rattle.grid.proofs.CutLaws.{range-forward, range-inside, accepted-cut, cut-byte, cut-part, cut-ends}
 use Rattle.cut.specs.declared.Cut.{Cut}
 use Rattle.cut.specs.declared.Cut.the-variants.{Accepted, Refused}
-use Rattle.cut.specs.Call.{answerOf, lineOf, range}
+use Rattle.cut_part.specs.Part.{lineOf, range}
+use Rattle.cut.specs.Call.{answerOf}
 
 module _ (text : List ℕ) (column : Column) (line : ℕ) (tableByte start end : ByteAt) (left : Column) (a : Cut) (told : answerOf a ≡ cutNumbersAnswer (lineOf text column) line (tableByte .0) (range start end) (left .0)) where
   abbrev answer : Answer Fragment

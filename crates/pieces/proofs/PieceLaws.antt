@@ -19,8 +19,8 @@ use Rattle.grid.specs.Flat.{linesFrom}
 use Rattle.grid.specs.Arrays.{codeAt}
 use Rattle.grid.proofs.SlotLaws.{line-at}
 use Rattle.grid.proofs.CutLaws.{drop-take, cut-column, cut-part}
-use Rattle.cut.specs.Call.{lineOf, Checked, Pieced}
-use Rattle.cut.specs.declared.Piece.{Piece}
+use Rattle.cut_part.specs.Part.{lineOf, Checked, Pieced}
+use Rattle.cut_part.specs.declared.Piece.{Piece}
 use Rattle.pieces.specs.Text.{source, fragmentBetween, cutBetween, Ready, Cuttable, PieceOf}
 
 -- ---- one line

@@ -14,7 +14,7 @@ use Rattle.grid.specs.LayoutCall.{slotSpace}
 use Rattle.grid.specs.Arrays.{codeAt, rectsOf}
 use Rattle.slots.specs.Filling.{Sheet}
 use Rattle.entries.specs.Writing.{Inside}
-use Rattle.cut.specs.declared.Piece.{Piece}
+use Rattle.cut_part.specs.declared.Piece.{Piece}
 use Rattle.pieces.specs.declared.TextSize.{TextSize}
 
 -- a drawing's arrays, where each line's text starts, and the byte of each slot

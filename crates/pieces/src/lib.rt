@@ -1,6 +1,6 @@
 // The cut lines of cells: how many there are, and the lines themselves.
-use cut::Piece;
-use cut::cut_part;
+use cut_part::Piece;
+use cut_part::cut_part;
 use grid::STRIDE;
 use text::ByteAt;
 use text::Column;

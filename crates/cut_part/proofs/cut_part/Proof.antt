@@ -1,9 +1,9 @@
--- `cut::cut_part` meets its contract: from its calls.
+-- `cut_part::cut_part` meets its contract: from its calls.
 -- Assumes nothing.
 use borrow.Author.Needs.{needs}
-use Rattle.cut.proofs.CallLaws.{pieced}
-use Rattle.cut.proofs.cut_part.Statement.{statement}
-use Rattle.cut.proofs.cut_part.Tie as tie
+use Rattle.cut_part.proofs.PartLaws.{pieced}
+use Rattle.cut_part.proofs.cut_part.Statement.{statement}
+use Rattle.cut_part.proofs.cut_part.Tie as tie
 
 sub-part : tie.Need-sub-part
 sub-part c = search needs

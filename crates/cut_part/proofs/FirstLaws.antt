@@ -11,8 +11,8 @@ use Rattle.text.specs.declared.ByteAt.{ByteAt}
 use Rattle.text.specs.declared.Column.{Column}
 use Rattle.grid.specs.Cut.{afterFirst}
 use Rattle.grid.proofs.CutLaws.{first-none, first-space, first-narrow-tab, first-wide-tab, first-other}
-use Rattle.cut.specs.declared.Start.{Start}
-use Rattle.cut.specs.Call.{Begins}
+use Rattle.cut_part.specs.declared.Start.{Start}
+use Rattle.cut_part.specs.Part.{Begins}
 
 module _ (byte : ByteAt) (column : Column) where
   -- the next byte and column

@@ -1,9 +1,9 @@
--- `cut::after_first` meets its contract: each return by its law.
+-- `cut_part::after_first` meets its contract: each return by its law.
 -- Assumes nothing.
-use Rattle.cut.proofs.FirstLaws.{none-begins, space-begins, other-begins, narrow-tab-begins, wide-tab-begins}
+use Rattle.cut_part.proofs.FirstLaws.{none-begins, space-begins, other-begins, narrow-tab-begins, wide-tab-begins}
 use borrow.Author.Needs.{needs}
-use Rattle.cut.proofs.after_first.Statement.{statement}
-use Rattle.cut.proofs.after_first.Tie as tie
+use Rattle.cut_part.proofs.after_first.Statement.{statement}
+use Rattle.cut_part.proofs.after_first.Tie as tie
 
 returns : tie.Need-returns
 returns c = search none-begins

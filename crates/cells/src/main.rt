@@ -12,7 +12,7 @@ fn main() {
         }
         Input::Bytes(n) => {
             let mut out = [0u8; 196608];
-            let end = cell_lister::list_cells(&input[0..n], &mut out);
+            let end = table_listing::list_cells(&input[0..n], &mut out);
             io::write_all(libc::STDOUT_FILENO, &out[0..end]);
         }
     }

@@ -40,3 +40,8 @@ any-line-too-large (n ∷ ns) (c ∷ cs) text e h =
     let later = any-line-too-large ns cs (drop n text) (omega arith) (omega (arith, length-drop n text)) in
     rw (length-take-le n text (omega arith), later)
     (or-middle (ltb maxLineBytes n) (ltb maxOrigin c) (any (λ n. ltb maxLineBytes n) ns) (any (λ n. ltb maxOrigin n) cs))
+
+pub length-split : (ns t : List ℕ) → length (splitText ns t) ≡ length ns
+unfolding splitText
+length-split [] t = refl
+length-split (n ∷ ns) t = ap suc (length-split ns (drop n t))

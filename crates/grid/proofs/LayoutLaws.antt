@@ -1,12 +1,13 @@
 -- Column and row lines of a cover: they are its edges, and each but the last is where a cell starts.
 -- Assumes nothing.
-use Prim.Native.Nat.{ℕ, zero, suc, _-_, _≤_, _<_}
+use Prim.Native.Nat.{ℕ, zero, suc, _+_, _-_, _≤_, _<_}
 use mathlib.Core.Path.{_≡_, refl, sym, ap, _∙_}
 use mathlib.Core.Bool.{Bool, true, _||_}
 use mathlib.Core.Logic.{_⊎_, _↔_, inl, inr, ⊎-elim}
 use mathlib.Core.List.{List, [], _∷_, map, List·Memᴰ, List·Memᴰ·head, List·Memᴰ·tail}
 use native.Mathlib.Nat.{eq-or-lt-of-le}
 use native.Mathlib.Omega.{arith}
+use native.Mathlib.Numerals.{add-one}
 use lib.Dec.{eqb, ltb}
 use lib.ListN.{length, getD, length-map}
 use borrow.Author.Tests.{eqb-true, eq-eqb}
@@ -27,6 +28,15 @@ unfolding between
 length-between [] = refl
 length-between (a ∷ []) = refl
 length-between (a ∷ b ∷ l) = omega (arith, length-between (b ∷ l))
+
+pub between-at : (l : List ℕ) (k : ℕ) (d : Between) → k + 1 < length l → getD (between l) k d ≡ record { from = getD l k 0; to = getD l (k + 1) 0 }
+unfolding between
+between-at l k d h = rw (add-one k) (go l k (omega arith)) where
+  go : (l : List ℕ) (k : ℕ) → suc k < length l → getD (between l) k d ≡ record { from = getD l k 0; to = getD l (suc k) 0 }
+  go [] k h = absurd (omega arith)
+  go (a ∷ []) k h = absurd (omega arith)
+  go (a ∷ b ∷ l) zero h = refl
+  go (a ∷ b ∷ l) (suc k) h = go (b ∷ l) k (omega arith)
 
 pub getD-between : (l : List ℕ) (i : ℕ) (d : Between) → suc i < length l → getD (between l) i d .from ≡ getD l i 0
 unfolding between

@@ -1,6 +1,5 @@
 pub mod Examples
 pub mod RectangleLaws
-pub mod ArrayLaws
 pub mod SkylineLaws
 pub mod TraceLaws
 pub mod CoverLaws
@@ -10,10 +9,7 @@ pub mod ReadLaws
 pub mod SeparatorLaws
 pub mod SectionLaws
 pub mod GlyphLaws
-pub mod HoldsLaws
 pub mod SlotLaws
-pub mod LayoutPartsLaws
-pub mod EntryLaws
 pub mod FlatLaws
 pub mod FlatTableLaws
 pub mod ByteLaws
@@ -23,4 +19,3 @@ pub mod SquareSums
 pub mod CutLaws
 pub mod CellLaws
 pub mod CellTexts
-pub mod TablePartsLaws

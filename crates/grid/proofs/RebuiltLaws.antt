@@ -23,8 +23,7 @@ use Rattle.grid.specs.Read.{readRects, readLayout}
 use Rattle.grid.specs.Flat.{FlatDrawing, drawingContradicts, linesOf, columnNumbers}
 use Rattle.grid.specs.LayoutCall.{LayoutSpace, LayoutSizes, LayoutArrays, spaceShort, rowNumbers, cellNumbers, layoutArrays, layoutSizes, layoutShort, layoutOver, layoutAccepts, layoutAnswer, layoutAfterwards}
 use Rattle.grid.specs.Rebuilt.{columnAcross, rebuiltCell, rebuiltFrom, rebuilt}
-use Rattle.grid.proofs.LayoutLaws.{length-between, columnLines-rise, rowLines-rise, left-line, right-line, top-line, bottom-line}
-use Rattle.grid.proofs.EntryLaws.{between-at}
+use Rattle.grid.proofs.LayoutLaws.{length-between, columnLines-rise, rowLines-rise, left-line, right-line, top-line, bottom-line, between-at}
 use Rattle.grid.proofs.ReadLaws.{passed-if, passed-then, passed, read-cover, layout-read}
 
 -- number i of the entries of element n, k entries each, with more written after all of them

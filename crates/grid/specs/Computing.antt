@@ -11,14 +11,11 @@ use Rattle.grid.specs.Cover.{risen}
 use Rattle.grid.specs.Flat.{drawingContradicts, splitText, linesWith, linesOf, flatDrawing, columnsOfArray, cellsOfArray, everyNth, tableContradicts, tableOfArrays, tableSizes, tableArrays}
 use Rattle.grid.specs.LayoutCall.{spaceShort, layoutArrays, layoutSizes, layoutShort, layoutOver, layoutAccepts, layoutAnswer, layoutAfterwards}
 use Rattle.grid.specs.Rebuilt.{rebuiltFrom}
-use Rattle.grid.specs.LayoutParts.{rectsAnswer, widthAnswer, gridAnswer, finishAnswer, finishSizes, finishArrays}
-use Rattle.grid.specs.Arrays.{arrayGrid, rectsOf}
-use Rattle.grid.specs.CutCall.{badRange, cutTooLarge, cutAnswer, cutNumbers, cutNumbersAnswer, cutText}
-use Rattle.grid.specs.TableParts.{tableAnswerOf, tableSizesOf, tableArraysOf}
+use Rattle.grid.specs.CutCall.{badRange, cutTooLarge, cutAnswer, cutNumbers, cutNumbersAnswer, cutText, cutStart}
 use Rattle.grid.specs.TableCall.{startsShort, tableSpaceShort, tableShort, tableOver, tableAccepts, tableAnswer, tableAfterwards, cellCuts, cellAccepts, cellAnswer, cellAfterwards}
 use Rattle.grid.specs.Listing.{splitLines, linesRead, printed, numbered, listing}
 use Rattle.grid.specs.CellListing.{cellListing}
 
 unfoldable pub reading : Unit {0}
-unfolding characters glyphOf slotsFrom lineSlots isSeparator gridOf slotAt across down bordered firstRect leftmost standsLevel raise nextRect traceFrom trace columnLines rowLines indexOf between alignmentAt columnsRead lastButOne sectionAt rowsRead cellRead layoutOf afterFirst cut cutFrom cellFragments dropEmptyLast tableCell tableOf drawingTooLarge outsideSet noRule wrongWidth readGrid readRects readLayout readTable drawnLines normalCell normal risen drawingContradicts splitText linesWith linesOf flatDrawing columnsOfArray cellsOfArray everyNth tableContradicts tableOfArrays tableSizes tableArrays spaceShort layoutArrays layoutSizes layoutShort layoutOver layoutAccepts layoutAnswer layoutAfterwards rebuiltFrom rectsAnswer widthAnswer gridAnswer finishAnswer finishSizes finishArrays arrayGrid rectsOf badRange cutTooLarge cutAnswer cutNumbers cutNumbersAnswer cutText startsShort tableSpaceShort tableShort tableOver tableAccepts tableAnswer tableAfterwards tableAnswerOf tableSizesOf tableArraysOf cellCuts cellAccepts cellAnswer cellAfterwards splitLines linesRead printed numbered listing cellListing
+unfolding characters glyphOf slotsFrom lineSlots isSeparator gridOf slotAt across down bordered firstRect leftmost standsLevel raise nextRect traceFrom trace columnLines rowLines indexOf between alignmentAt columnsRead lastButOne sectionAt rowsRead cellRead layoutOf afterFirst cut cutFrom cellFragments dropEmptyLast tableCell tableOf drawingTooLarge outsideSet noRule wrongWidth readGrid readRects readLayout readTable drawnLines normalCell normal risen drawingContradicts splitText linesWith linesOf flatDrawing columnsOfArray cellsOfArray everyNth tableContradicts tableOfArrays tableSizes tableArrays spaceShort layoutArrays layoutSizes layoutShort layoutOver layoutAccepts layoutAnswer layoutAfterwards rebuiltFrom badRange cutTooLarge cutAnswer cutNumbers cutNumbersAnswer cutText cutStart startsShort tableSpaceShort tableShort tableOver tableAccepts tableAnswer tableAfterwards cellCuts cellAccepts cellAnswer cellAfterwards splitLines linesRead printed numbered listing cellListing
 reading = tt

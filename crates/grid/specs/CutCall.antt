@@ -42,3 +42,7 @@ cutNumbersAnswer given line tableByte r left = andThen (cutAnswer given line tab
 -- the cut text as a part of the line; the empty part where the call is refused
 unfoldable pub cutText : Line → ℕ → ℕ → Range → ℕ → List ℕ
 cutText given line tableByte r left = afterwards (cutAnswer given line tableByte r left) (λ (f : Fragment). f .text) []
+
+-- where that part starts in the line given; the empty part stands at its start
+unfoldable pub cutStart : Line → ℕ → ℕ → Range → ℕ → ℕ
+cutStart given line tableByte r left = afterwards (cutNumbersAnswer given line tableByte r left) (λ (c : CutNumbers). c .start) 0

@@ -26,6 +26,14 @@ pub record LayoutSpace : Type 0 where
   pub right : ℕ
   pub rects : ℕ
 
+-- the working space and the drawing, from the arrays that a call is lent
+abbrev pub spaces : List ℕ → List ℕ → List ℕ → List ℕ → List ℕ → LayoutSpace
+spaces glyphs offsets down right rects =
+    record { glyphs = length glyphs; offsets = length offsets; down = length down; right = length right; rects = length rects }
+
+abbrev pub drawing : ℕ → ℕ → List ℕ → List ℕ → List ℕ → FlatDrawing
+drawing lines bytes lengths columns text = record { lines = lines; bytes = bytes; lengths = lengths; columns = columns; text = text }
+
 unfoldable pub spaceShort : LayoutSpace → Bool
 spaceShort w =
     ltb (w .glyphs) slotSpace || ltb (w .offsets) slotSpace || ltb (w .down) slotSpace || ltb (w .right) slotSpace || ltb (w .rects) rectSpace

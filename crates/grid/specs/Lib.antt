@@ -12,12 +12,8 @@ pub mod Cover
 pub mod Flat
 pub mod LayoutCall
 pub mod Rebuilt
-pub mod LayoutParts
-pub mod Arrays
-pub mod Reach
 pub mod CutCall
 pub mod TableCall
-pub mod TableParts
 pub mod Listing
 pub mod CellListing
 pub mod Computing

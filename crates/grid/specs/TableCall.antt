@@ -18,6 +18,9 @@ pub record TableSpace : Type 0 where
   pub starts : ℕ
   pub counts : ℕ
 
+abbrev pub tableSpaces : List ℕ → List ℕ → TableSpace
+tableSpaces starts counts = record { starts = length starts; counts = length counts }
+
 unfoldable pub startsShort : ℕ → Bool
 startsShort starts = ltb starts maxLines
 

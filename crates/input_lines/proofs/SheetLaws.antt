@@ -14,9 +14,8 @@ use Rattle.grid.specs.Answer.{refuse}
 use Rattle.grid.specs.Values.{Line}
 use Rattle.grid.specs.Read.{drawingTooLarge, readRects, readLayout}
 use Rattle.grid.specs.Flat.{FlatDrawing, drawingContradicts, splitText, linesWith, linesOf}
-use Rattle.grid.specs.LayoutCall.{LayoutSpace, spaceShort}
+use Rattle.grid.specs.LayoutCall.{LayoutSpace, spaceShort, drawing, spaces}
 use Rattle.grid.proofs.FlatLaws.{length-lines}
-use Rattle.reading.specs.Call.{drawing, spaces}
 use Rattle.input_lines.specs.Splitting.{Held, Splits}
 use Rattle.input_lines.specs.Sheet.{linesAt0}
 use Rattle.input_lines.specs.declared.Split.{Split}

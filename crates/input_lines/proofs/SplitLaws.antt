@@ -19,6 +19,7 @@ use Rattle.grid.specs.Values.{Line}
 use Rattle.grid.specs.Flat.{splitText}
 use Rattle.grid.specs.Read.{drawingTooLarge, lineTooLarge}
 use Rattle.grid.specs.Listing.{lineFeed, splitLines, linesRead}
+use Rattle.grid.proofs.FlatLaws.{length-split}
 use Rattle.printing.specs.Printing.{Put}
 use Rattle.input_lines.specs.Splitting.{Held, Splitting, onto}
 use Rattle.printing.proofs.PutLaws.{put-next}
@@ -123,11 +124,6 @@ bytes-split (n ∷ ns) t h =
     let first : length (take n t) ≡ n = length-take-le n t (omega arith) in
     let others : bytesIn (splitText ns (drop n t)) ≡ sum ns = bytes-split ns (drop n t) (omega (arith, length-drop n t)) in
     rw (first, others)
-
-pub length-split : (ns t : List ℕ) → length (splitText ns t) ≡ length ns
-unfolding splitText
-length-split [] t = refl
-length-split (n ∷ ns) t = ap suc (length-split ns (drop n t))
 
 abbrev lineOf : List ℕ → Line
 lineOf t = record { text = t; column = 0 }

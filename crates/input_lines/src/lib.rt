@@ -16,8 +16,10 @@ pub enum Split {
 // The first line feed at or after `from`, or the end.
 fn find_feed(input: &[u8], from: usize) -> usize
     requires { ⌜ from < length (now input) ⌝ }
-    ensures { λ r. ⌜ (from ≤ r) × (r ≤ length (now (input .entry))) ⌝ }
-    ensures { λ r. ⌜ splitLines (drop from (now (input .entry))) ≡ take (r - from) (drop from (now (input .entry))) ∷ splitLines (drop (r + 1) (now (input .entry))) ⌝ }
+    ensures { λ r.
+        let rest = drop from (now (input .entry)) in
+        ⌜ ((from ≤ r) × (r ≤ length (now (input .entry))))
+        × (splitLines rest ≡ take (r - from) rest ∷ splitLines (drop (r + 1) (now (input .entry)))) ⌝ }
 {
     let mut i = from;
     while i < input.len() {

@@ -5,11 +5,11 @@ use mathlib.Core.Path.{_≡_, _∙_}
 use mathlib.Core.List.{List}
 use Rattle.grid.specs.Answer.{Answer, refuse}
 use Rattle.grid.specs.Flat.{linesFrom, linesOf}
-use Rattle.grid.specs.LayoutCall.{LayoutSpace, LayoutSizes, LayoutArrays, layoutAnswer, layoutAfterwards}
-use Rattle.grid.specs.LayoutParts.{rectsAnswer, finishSizes, finishArrays}
-use Rattle.grid.specs.Arrays.{rectsOf}
-use Rattle.grid.proofs.LayoutPartsLaws.{refused-layout, finished-layout}
-use Rattle.reading.specs.Call.{drawing, Reading}
+use Rattle.grid.specs.LayoutCall.{LayoutSpace, LayoutSizes, LayoutArrays, layoutAnswer, layoutAfterwards, drawing}
+use Rattle.representation.specs.LayoutParts.{rectsAnswer, finishSizes, finishArrays}
+use Rattle.representation.specs.Arrays.{rectsOf}
+use Rattle.representation.proofs.LayoutPartsLaws.{refused-layout, finished-layout}
+use Rattle.reading.specs.Call.{Reading}
 use Rattle.reading.specs.declared.Outcome.{Outcome}
 
 module _ (w : LayoutSpace) (lines bytes : ℕ) (lengths columns text glyphs offsets rects : List ℕ) (out : LayoutArrays) (s : Outcome)

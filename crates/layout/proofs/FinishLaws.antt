@@ -11,12 +11,12 @@ use Rattle.grid.specs.Values.{Line, Rect}
 use Rattle.grid.specs.Slots.{gridOf, trimmedAt}
 use Rattle.grid.specs.Layout.{headEnd, footStart, columnLines, rowLines, innerCount, layoutOf}
 use Rattle.grid.specs.LayoutCall.{LayoutArrays, layoutArrays, layoutShort, layoutOver}
-use Rattle.grid.specs.LayoutParts.{finishAnswer, finishSizes, finishArrays}
+use Rattle.representation.specs.LayoutParts.{finishAnswer, finishSizes, finishArrays}
 use Rattle.grid.proofs.SizeLaws.{sizes-agree, short-agrees}
-use Rattle.entries.specs.Writing.{columnEntries, rowEntries, cellEntries, allRanges}
-use Rattle.entries.specs.declared.Parts.{Parts}
-use Rattle.entries.proofs.AgreeLaws.{Laid, arrays-agree}
-use Rattle.sizes.specs.Sized.{tooShort}
+use Rattle.representation.specs.Writing.{columnEntries, rowEntries, cellEntries, allRanges}
+use Rattle.representation.specs.declared.Parts.{Parts}
+use Rattle.representation.proofs.AgreeLaws.{Laid, arrays-agree}
+use Rattle.layout.specs.Sized.{tooShort}
 use Rattle.layout.specs.Call.{arrays}
 
 -- the tests of 12, of the arrays lent

@@ -18,20 +18,21 @@ use Rattle.grid.specs.Slots.{gridOf}
 use Rattle.grid.specs.Layout.{innerLines, innerCount, rowLines, columnLines}
 use Rattle.grid.specs.Flat.{linesFrom, splitText}
 use Rattle.grid.specs.LayoutCall.{LayoutArrays, slotSpace}
-use Rattle.grid.specs.LayoutParts.{finishSizes, finishArrays}
-use Rattle.grid.specs.Arrays.{codeAt, rectsOf}
-use Rattle.grid.proofs.EntryLaws.{length-rects}
-use Rattle.entries.specs.Edges.{rowLinesBelow, columnLinesBelow}
-use Rattle.entries.specs.Writing.{linesHeld, Rising, columnEntries, rowEntries, cellEntries, rangeEntries, allRanges, Numbered}
-use Rattle.entries.specs.declared.Parts.{Parts}
-use Rattle.entries.proofs.TracedLaws.{rows-some, columns-some, small-bytes}
+use Rattle.representation.specs.LayoutParts.{finishSizes, finishArrays}
+use Rattle.representation.specs.Arrays.{codeAt, rectsOf}
+use Rattle.representation.proofs.RectsLaws.{length-rects}
+use Rattle.representation.specs.Edges.{rowLinesBelow, columnLinesBelow}
+use Rattle.representation.specs.Writing.{linesHeld, Rising, columnEntries, rowEntries, cellEntries, rangeEntries, allRanges, Numbered}
+use Rattle.representation.specs.declared.Parts.{Parts}
+use Rattle.representation.proofs.TracedLaws.{rows-some, columns-some, small-bytes}
 use Rattle.reading.specs.Call.{TracedSheet}
-use Rattle.sizes.specs.Sized.{Measurable, Sized}
-use Rattle.sizes.specs.declared.Sizes.{Sizes}
+use Rattle.layout.specs.Sized.{Measurable, Sized}
+use Rattle.layout.specs.declared.sizes.Sizes.{Sizes}
 use Rattle.layout.specs.Call.{arrays}
 use Rattle.reading.specs.declared.Outcome.{Outcome}
 use Rattle.reading.proofs.CheckedLaws.{trimmed-text}
-use Rattle.reading.proofs.SheetLaws.{accepted, held, count, across, short-lines, all-inside, entries-small, cells-room, all-laid, PartsFound, headed, footed, head-line, down-some, across-some, downs, acrosses, across-told, down-told, rows-rise, columns-rise, columns-small, all-numbered, tall, wide}
+use Rattle.reading.proofs.SheetLaws.{accepted, held, count, across, short-lines, all-inside, entries-small, cells-room, all-laid, tall, wide}
+use Rattle.layout.proofs.FoundLaws.{PartsFound, headed, footed, head-line, down-some, across-some, downs, acrosses, across-told, down-told, rows-rise, columns-rise, columns-small, all-numbered}
 use Rattle.layout.proofs.FinishLaws.{shortFor, no-room-answer, no-room-arrays, finished-answer, finished-arrays}
 
 -- the entries of the ranges, two for each inner line
@@ -119,12 +120,12 @@ module _ (lengths columns text glyphs offsets rects : List ℕ) (o : Outcome) (t
 
       pub written : {cols rows cells ranges line : List ℕ} → line ≡ trimEnd (getD (splitText lengths text) (p .head) [])
           → ((cols ≡ over (columnEntries glyphs offsets line (p .head) (linesHeld (s .lefts))) (out .columns))
-          × ((rows ≡ over (rowEntries p (linesHeld (s .tops))) (out .rows))
-          × ((cells ≡ over (cellEntries (linesHeld (s .tops)) (linesHeld (s .lefts)) (rectsOf (o .cells) rects)) (out .cells)) × (ranges ≡ over (allRanges offsets (rectsOf (o .cells) rects)) (out .ranges)))))
+          × (rows ≡ over (rowEntries p (linesHeld (s .tops))) (out .rows))
+          × (cells ≡ over (cellEntries (linesHeld (s .tops)) (linesHeld (s .lefts)) (rectsOf (o .cells) rects)) (out .cells)) × (ranges ≡ over (allRanges offsets (rectsOf (o .cells) rects)) (out .ranges)))
           → (accept (record { width = o .width; columns = s .columns; rows = s .rows; cells = s .cells; ranges = s .ranges }) ≡ finishSizes (linesFrom lengths columns text) (rectsOf (o .cells) rects) out)
           × (arrays cols rows cells ranges ≡ finishArrays (linesFrom lengths columns text) (rectsOf (o .cells) rects) out)
       written trimmed all = (
         finished-answer (linesFrom lengths columns text) (rectsOf (o .cells) rects) out _ _ _ _ columns-told rows-told cells-told (z .rangesTold) not-short (o .width) (wide lengths columns text glyphs offsets rects o t),
-        rw (all .0, all .1 .0, all .1 .1 .0, all .1 .1 .1, trimmed, ← trimmed-text (splitText lengths text) columns (p .head), downs lengths columns text glyphs offsets rects o t (s .tops) (s .lefts) (z .down) (z .across), acrosses lengths columns text glyphs offsets rects o t (s .tops) (s .lefts) (z .down) (z .across))
+        rw (all .0, all .1, all .2, all .3, trimmed, ← trimmed-text (splitText lengths text) columns (p .head), downs lengths columns text glyphs offsets rects o t (s .tops) (s .lefts) (z .down) (z .across), acrosses lengths columns text glyphs offsets rects o t (s .tops) (s .lefts) (z .down) (z .across))
             (finished-arrays (linesFrom lengths columns text) (rectsOf (o .cells) rects) out _ _ _ _ columns-told rows-told cells-told (z .rangesTold) not-short glyphs offsets (all-laid lengths columns text glyphs offsets rects o t) p (headed lengths columns text glyphs offsets rects o t p parts) (footed lengths columns text glyphs offsets rects o t p parts) (rw (tall lengths columns text glyphs offsets rects o t) (t .sheet .fewLines))),
       )

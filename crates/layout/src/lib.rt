@@ -1,16 +1,24 @@
 // The layout call, and what it writes (layout.rs: layout).
-use layout_arrays::write_layout;
+pub mod arrays;
+pub mod bounds;
+pub mod cell_entries;
+pub mod line_entries;
+pub mod range_entries;
+pub mod sections;
+pub mod sizes;
+
+use crate::arrays::write_layout;
+use crate::sections::find_parts;
+use crate::sizes::measure;
 use reading::Outcome;
 use reading::read;
 use reading::trimmed_line;
-use sections::find_parts;
-use sizes::measure;
 ghost use mathlib.Core.Path.{_≡_};
 ghost use Rattle.grid.specs.Flat.{linesFrom};
-ghost use Rattle.grid.specs.LayoutCall.{layoutAnswer, layoutAfterwards};
-ghost use Rattle.grid.specs.LayoutParts.{finishSizes, finishArrays};
-ghost use Rattle.grid.specs.Arrays.{rectsOf};
-ghost use Rattle.reading.specs.Call.{spaces, drawing, TracedSheet};
+ghost use Rattle.grid.specs.LayoutCall.{layoutAnswer, layoutAfterwards, spaces, drawing};
+ghost use Rattle.representation.specs.LayoutParts.{finishSizes, finishArrays};
+ghost use Rattle.representation.specs.Arrays.{rectsOf};
+ghost use Rattle.reading.specs.Call.{TracedSheet};
 ghost use Rattle.layout.specs.Call.{answerOf, arrays};
 
 // The width of the drawing and how many columns, rows, cells and ranges were written; or a refusal.
@@ -43,8 +51,12 @@ fn finish(
     ranges: &mut [u16],
 ) -> LayoutAnswer
     requires { ⌜ TracedSheet (now lengths) (now columns) (now text) (now glyphs) (now offsets) (now rects) outcome ⌝ }
-    ensures { λ r. ⌜ answerOf r ≡ finishSizes (linesFrom (now (lengths .entry)) (now (columns .entry)) (now (text .entry))) (rectsOf (outcome .cells) (now (rects .entry))) (arrays (now (cols .entry)) (now (rows .entry)) (now (cells .entry)) (now (ranges .entry))) ⌝ }
-    ensures { λ _. ⌜ arrays (now (cols .exit)) (now (rows .exit)) (now (cells .exit)) (now (ranges .exit)) ≡ finishArrays (linesFrom (now (lengths .entry)) (now (columns .entry)) (now (text .entry))) (rectsOf (outcome .cells) (now (rects .entry))) (arrays (now (cols .entry)) (now (rows .entry)) (now (cells .entry)) (now (ranges .entry))) ⌝ }
+    ensures { λ r.
+        let before = arrays (now (cols .entry)) (now (rows .entry)) (now (cells .entry)) (now (ranges .entry)) in
+        let after = arrays (now (cols .exit)) (now (rows .exit)) (now (cells .exit)) (now (ranges .exit)) in
+        let rs = rectsOf (outcome .cells) (now (rects .entry)) in
+        let drawn = linesFrom (now (lengths .entry)) (now (columns .entry)) (now (text .entry)) in
+        ⌜ (answerOf r ≡ finishSizes drawn rs before) × (after ≡ finishArrays drawn rs before) ⌝ }
 {
     let height = lengths.len();
     let width = outcome.width;
@@ -110,8 +122,13 @@ pub fn layout(
     cells: &mut [u16],
     ranges: &mut [u16],
 ) -> LayoutAnswer
-    ensures { λ r. ⌜ answerOf r ≡ layoutAnswer (spaces (now (glyphs .entry)) (now (offsets .entry)) (now (down .entry)) (now (right .entry)) (now (rects .entry))) (drawing lines bytes (now (lengths .entry)) (now (columns .entry)) (now (text .entry))) (arrays (now (cols .entry)) (now (rows .entry)) (now (cells .entry)) (now (ranges .entry))) ⌝ }
-    ensures { λ _. ⌜ arrays (now (cols .exit)) (now (rows .exit)) (now (cells .exit)) (now (ranges .exit)) ≡ layoutAfterwards (spaces (now (glyphs .entry)) (now (offsets .entry)) (now (down .entry)) (now (right .entry)) (now (rects .entry))) (drawing lines bytes (now (lengths .entry)) (now (columns .entry)) (now (text .entry))) (arrays (now (cols .entry)) (now (rows .entry)) (now (cells .entry)) (now (ranges .entry))) ⌝ }
+    ensures { λ r.
+        let space = spaces (now (glyphs .entry)) (now (offsets .entry)) (now (down .entry)) (now (right .entry)) (now (rects .entry)) in
+        let given = drawing lines bytes (now (lengths .entry)) (now (columns .entry)) (now (text .entry)) in
+        let before = arrays (now (cols .entry)) (now (rows .entry)) (now (cells .entry)) (now (ranges .entry)) in
+        let after = arrays (now (cols .exit)) (now (rows .exit)) (now (cells .exit)) (now (ranges .exit)) in
+        ⌜ (answerOf r ≡ layoutAnswer space given before)
+        × (after ≡ layoutAfterwards space given before) ⌝ }
 {
     let outcome = read(
         lines,

@@ -9,7 +9,7 @@ use Rattle.grid.specs.Listing.{listed}
 use Rattle.layout.specs.declared.LayoutAnswer.{LayoutAnswer}
 use Rattle.layout.specs.declared.LayoutAnswer.the-variants.{Accepted, Refused}
 use Rattle.printing.specs.Printing.{refusedLine}
-use Rattle.layout_printing.specs.Printing.{tablePrinted}
+use Rattle.layout_listing.specs.Printing.{tablePrinted}
 use Rattle.input_lines.specs.Sheet.{linesAt0}
 
 abbrev pub listedLines : List (List ℕ) → List ℕ

@@ -1,80 +1,27 @@
-// The listing of a drawing's lines, from the layout call's answer.
-use layout::LayoutAnswer;
-use layout_printing::table;
+// What the listing program prints for what it reads, as one function on bytes.
+pub mod lines;
+pub mod print;
+
+use crate::lines::list_lines;
+use input_lines::Split;
+use input_lines::split_lines;
 use printing::refused;
 ghost use Prim.Native.Nat.{_≤_};
-ghost use mathlib.Core.Path.{_≡_};
 ghost use lib.ListN.{length};
-ghost use Rattle.seq.specs.Lists.{sum};
-ghost use Rattle.grid.specs.Flat.{splitText};
+ghost use Rattle.grid.specs.Listing.{listing};
 ghost use Rattle.printing.specs.Printing.{Prints};
-ghost use Rattle.layout_listing.specs.Listed.{listedLines, Told};
 
-// The layout of a drawing's lines, all at column 0, with working space as the call names it.
-fn lines_layout(
-    lengths: &[u16],
-    text: &[u8],
-    cols: &mut [u16],
-    rows: &mut [u16],
-    cells: &mut [u16],
-) -> LayoutAnswer
-    requires { ⌜ (length (now lengths) ≤ 128) × (sum (now lengths) ≡ length (now text)) ⌝ }
-    requires { ⌜ (length (now cols) ≡ 254) × (length (now rows) ≡ 381) × (length (now cells) ≡ 5120) ⌝ }
-    ensures { λ r. ⌜ Told (now (lengths .entry)) (now (text .entry)) (now (cols .exit)) (now (rows .exit)) (now (cells .exit)) r ⌝ }
+// Writes the listing of `input` at the start of `out` and counts its bytes. The longest has 110
+// bytes for the sizes and for each of 1,024 cells, 48 for each of 127 columns, 69 for each of 127
+// rows, a number taken as 20 digits.
+pub fn list(input: &[u8], out: &mut [u8]) -> usize
+    requires { ⌜ 131072 ≤ length (now out) ⌝ }
+    ensures { λ r. ⌜ Prints (now (out .exit)) r (listing (now (input .entry))) ⌝ }
 {
-    let lines = lengths.len();
-    let origins = [0u16; 128];
-    let mut glyphs = [0u8; 16384];
-    let mut offsets = [0u16; 16384];
-    let mut down = [0u8; 16384];
-    let mut right = [0u8; 16384];
-    let mut rects = [0u8; 4096];
-    let mut ranges = [0u16; 32768];
-    layout::layout(
-        lines,
-        text.len(),
-        lengths,
-        &origins[0..lines],
-        text,
-        &mut glyphs,
-        &mut offsets,
-        &mut down,
-        &mut right,
-        &mut rects,
-        cols,
-        rows,
-        cells,
-        &mut ranges,
-    )
-}
-
-// The listing of a drawing's lines, all at column 0.
-pub fn list_lines(lengths: &[u16], text: &[u8], out: &mut [u8]) -> usize
-    requires { ⌜ (length (now lengths) ≤ 128) × (sum (now lengths) ≡ length (now text)) × (131072 ≤ length (now out)) ⌝ }
-    ensures { λ r. ⌜ Prints (now (out .exit)) r (listedLines (splitText (now (lengths .entry)) (now (text .entry)))) ⌝ }
-{
-    // They hold every layout.
-    let mut cols = [0u16; 254];
-    let mut rows = [0u16; 381];
-    let mut cells = [0u16; 5120];
-    match lines_layout(lengths, text, &mut cols, &mut rows, &mut cells) {
-        LayoutAnswer::Refused { number, place } => refused(number, place, out),
-        LayoutAnswer::Accepted {
-            width,
-            columns: across,
-            rows: tall,
-            cells: count,
-            ranges: _,
-        } => table(
-            width,
-            lengths.len(),
-            across,
-            tall,
-            count,
-            &cols,
-            &rows,
-            &cells,
-            out,
-        ),
+    let mut lengths = [0u16; 128];
+    let mut text = [0u8; 32768];
+    match split_lines(input, &mut lengths, &mut text) {
+        Split::TooLarge => refused(2, 0, out),
+        Split::Lines { lines, bytes } => list_lines(&lengths[0..lines], &text[0..bytes], out),
     }
 }

@@ -12,7 +12,7 @@ fn main() {
         }
         Input::Bytes(n) => {
             let mut out = [0u8; 131072];
-            let end = lister::list(&input[0..n], &mut out);
+            let end = layout_listing::list(&input[0..n], &mut out);
             io::write_all(libc::STDOUT_FILENO, &out[0..end]);
         }
     }

@@ -71,7 +71,9 @@ pub fn numbers(values: &[usize], out: &mut [u8], at: usize) -> usize
 // A line's first word and the numbers after it.
 pub fn words(name: &[u8], values: &[usize], out: &mut [u8], at: usize) -> usize
     requires { ⌜ at + (length (now name) + 21 * length (now values)) ≤ length (now out) ⌝ }
-    ensures { λ r. ⌜ Put (length (now (name .entry)) + 21 * length (now (values .entry))) (now (out .entry)) (now (out .exit)) at r (now (name .entry) ++ spaced (now (values .entry))) ⌝ }
+    ensures { λ r.
+        let printed = now (name .entry) ++ spaced (now (values .entry)) in
+        ⌜ Put (length (now (name .entry)) + 21 * length (now (values .entry))) (now (out .entry)) (now (out .exit)) at r printed ⌝ }
 {
     let end = copy(name, out, at);
     numbers(values, out, end)

@@ -20,12 +20,12 @@ use Rattle.grid.specs.Values.{Line}
 use Rattle.grid.specs.Slots.{trimmedAt}
 use Rattle.grid.specs.Read.{drawingTooLarge, outsideSet, noRule}
 use Rattle.grid.specs.Flat.{drawingContradicts, splitText, linesWith, linesFrom, linesOf}
-use Rattle.grid.specs.LayoutParts.{widthAnswer}
-use Rattle.limits.specs.Agreement.{Agree}
-use Rattle.checks.specs.Checks.{placeOf}
-use Rattle.checks.specs.declared.Place.{Place}
-use Rattle.checks.specs.declared.Place.the-variants.{At, Nowhere}
-use Rattle.reading.specs.Call.{drawing}
+use Rattle.representation.specs.LayoutParts.{widthAnswer}
+use Rattle.reading.specs.Agreement.{Agree}
+use Rattle.reading.specs.Checks.{placeOf}
+use Rattle.reading.specs.declared.checks.Place.{Place}
+use Rattle.reading.specs.declared.checks.Place.the-variants.{At, Nowhere}
+use Rattle.grid.specs.LayoutCall.{drawing}
 
 -- ---- a line of a text back to back
 text-at : (lengths text : List ℕ) (y : ℕ) → y < length lengths → getD (splitText lengths text) y [] ≡ take (getD lengths y 0) (drop (sum (take y lengths)) text)

@@ -3,3 +3,5 @@ pub mod CheckedLaws
 pub mod WidthLaws
 pub mod ReadingLaws
 pub mod SheetLaws
+pub mod LimitLaws
+mod CheckLaws

@@ -15,15 +15,15 @@ use Rattle.grid.specs.Values.{Rect}
 use Rattle.grid.specs.Slots.{gridOf, trimmedAt}
 use Rattle.grid.specs.Read.{drawingTooLarge, outsideSet, noRule}
 use Rattle.grid.specs.Flat.{FlatDrawing, drawingContradicts, linesFrom, linesOf}
-use Rattle.grid.specs.LayoutCall.{LayoutSpace, spaceShort, slotSpace, rectSpace}
-use Rattle.grid.specs.LayoutParts.{rectsAnswer, widthAnswer}
-use Rattle.grid.specs.Arrays.{Roomy}
-use Rattle.grid.proofs.LayoutPartsLaws.{short-rects, unwide-rects, wide-rects}
-use Rattle.slots.specs.Filling.{Sheet}
+use Rattle.grid.specs.LayoutCall.{LayoutSpace, spaceShort, slotSpace, rectSpace, spaces, drawing}
+use Rattle.representation.specs.LayoutParts.{rectsAnswer, widthAnswer}
+use Rattle.representation.specs.Arrays.{Roomy}
+use Rattle.representation.proofs.LayoutPartsLaws.{short-rects, unwide-rects, wide-rects}
+use Rattle.representation.specs.Sheet.{Sheet}
 use Rattle.reading.specs.declared.Measured.{Measured}
 use Rattle.reading.specs.declared.Measured.the-variants.{Width, Refused}
 use Rattle.reading.specs.declared.Outcome.{Outcome}
-use Rattle.reading.specs.Call.{spaces, drawing, checkedOf, Through, Reading}
+use Rattle.reading.specs.Call.{checkedOf, Through, Reading}
 use Rattle.reading.proofs.WidthLaws.{sheet-passed, bytes-few, width-told, width-fits, rooms}
 
 -- ---- no refusal has number 0

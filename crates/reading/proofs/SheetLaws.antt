@@ -1,29 +1,25 @@
 -- What a traced drawing's arrays say, and the lines and parts found from them.
 -- Assumes nothing.
 use Prim.Native.Nat.{ℕ, zero, suc, _+_, _*_, _-_, _≤_, _<_}
-use mathlib.Core.Path.{_≡_, refl, sym, ap}
+use mathlib.Core.Path.{_≡_, refl, sym}
 use mathlib.Core.List.{List, [], List·Memᴰ, List·Memᴰ·head, List·Memᴰ·tail}
 use native.Mathlib.Nat.{mul-suc}
 use native.Mathlib.Omega.{arith}
 use lib.ListN.{length, getD, take, drop, length-take}
 use lib.Seq.{getD-drop}
-use Rattle.seq.specs.Lists.{sum, orDefault}
+use Rattle.seq.specs.Lists.{sum}
 use Rattle.grid.specs.Answer.{accept}
 use Rattle.grid.specs.Values.{Rect}
 use Rattle.grid.specs.Slots.{gridOf, trimmedAt}
-use Rattle.grid.specs.Layout.{firstOf, lastButOne, headEnd, footStart, columnLines, rowLines}
 use Rattle.grid.specs.Flat.{linesFrom}
-use Rattle.grid.specs.LayoutParts.{gridAnswer}
-use Rattle.grid.specs.Arrays.{rectsOf, Holds}
+use Rattle.representation.specs.LayoutParts.{gridAnswer}
+use Rattle.representation.specs.Arrays.{rectsOf, Holds}
 use Rattle.grid.proofs.SlotLaws.{lines-length, line-at}
 use Rattle.slots.specs.Filling.{separatorLines}
-use Rattle.entries.specs.Edges.{Collected, rowLinesBelow, columnLinesBelow}
-use Rattle.entries.specs.Writing.{linesHeld, Rising, Inside, Numbered}
-use Rattle.entries.specs.declared.Bounds.{Bounds}
-use Rattle.entries.specs.declared.Parts.{Parts}
+use Rattle.representation.specs.Writing.{Inside}
 use Rattle.grid.specs.Cover.{Cover}
-use Rattle.entries.proofs.AgreeLaws.{Laid}
-use Rattle.entries.proofs.TracedLaws.{inside, laid, cover, tops-held, lefts-held, tops-rise, lefts-rise, tops-some, lefts-some, lefts-small, numbered}
+use Rattle.representation.proofs.AgreeLaws.{Laid}
+use Rattle.representation.proofs.TracedLaws.{inside, laid, cover}
 use Rattle.reading.specs.Call.{TracedSheet}
 use Rattle.reading.specs.declared.Outcome.{Outcome}
 
@@ -86,64 +82,3 @@ module _ (lengths columns text glyphs offsets rects : List ℕ) (o : Outcome) (t
 
   pub some-line : 0 < length lengths
   some-line = omega (arith, tall, cover (linesFrom lengths columns text) (rectsOf (o .cells) rects) glyphs offsets accepted held .tall)
-
-  -- the parts that were found
-  abbrev pub PartsFound : Parts → Type 0
-  PartsFound p = (p .head ≡ orDefault 0 (firstOf (separatorLines (o .separators)))) × (p .foot ≡ orDefault 128 (lastButOne (length lengths - 1) (separatorLines (o .separators))))
-
-  module _ (p : Parts) (parts : PartsFound p) where
-    pub headed : p .head ≡ orDefault 0 (headEnd (gridOf (linesFrom lengths columns text)))
-    headed = rw (← separated) (parts .0)
-
-    pub footed : p .foot ≡ orDefault 128 (footStart (gridOf (linesFrom lengths columns text)))
-    footed = rw (← separated, tall) (parts .1)
-
-    pub head-line : p .head < length lengths
-    head-line = omega (arith, headed, tall, laid (linesFrom lengths columns text) (rectsOf (o .cells) rects) glyphs offsets accepted held .aligned)
-
-  -- the lines that were collected
-  module _ (tops lefts : Bounds) (c : Collected (rowLinesBelow (length lengths) (rectsOf (o .cells) rects)) (length lengths) tops)
-      (d : Collected (columnLinesBelow (o .width) (rectsOf (o .cells) rects)) (o .width) lefts) where
-    pub c′ : Collected (rowLinesBelow (length (linesFrom lengths columns text)) (rectsOf (o .cells) rects)) (length (linesFrom lengths columns text)) tops
-    c′ = rw count c
-
-    pub d′ : Collected (columnLinesBelow (gridOf (linesFrom lengths columns text) .width) (rectsOf (o .cells) rects)) (gridOf (linesFrom lengths columns text) .width) lefts
-    d′ = rw across d
-
-    pub low : length (linesFrom lengths columns text) ≤ 128
-    low = rw count (t .sheet .fewLines)
-
-    pub narrow : gridOf (linesFrom lengths columns text) .width ≤ 128
-    narrow = rw across (t .roomy .widthFits)
-
-    pub down-some : 1 ≤ tops .count
-    down-some = tops-some (linesFrom lengths columns text) (rectsOf (o .cells) rects) glyphs offsets accepted held low narrow tops lefts c′ d′
-
-    pub across-some : 1 ≤ lefts .count
-    across-some = lefts-some (linesFrom lengths columns text) (rectsOf (o .cells) rects) glyphs offsets accepted held low narrow tops lefts c′ d′
-
-    pub downs : linesHeld tops ≡ rowLines (gridOf (linesFrom lengths columns text)) (rectsOf (o .cells) rects)
-    downs = tops-held (linesFrom lengths columns text) (rectsOf (o .cells) rects) glyphs offsets accepted held low narrow tops lefts c′ d′
-
-    pub acrosses : linesHeld lefts ≡ columnLines (gridOf (linesFrom lengths columns text)) (rectsOf (o .cells) rects)
-    acrosses = lefts-held (linesFrom lengths columns text) (rectsOf (o .cells) rects) glyphs offsets accepted held low narrow tops lefts c′ d′
-
-    pub across-told : lefts .count - 1 ≡ length (columnLines (gridOf (linesFrom lengths columns text)) (rectsOf (o .cells) rects)) - 1
-    unfolding columnLines
-    across-told = ap (λ n. n - 1) (d′ .counted)
-
-    pub down-told : tops .count - 1 ≡ length (rowLines (gridOf (linesFrom lengths columns text)) (rectsOf (o .cells) rects)) - 1
-    unfolding rowLines gridOf
-    down-told = ap (λ n. n - 1) (c′ .counted)
-
-    pub rows-rise : Rising tops
-    rows-rise = tops-rise (linesFrom lengths columns text) (rectsOf (o .cells) rects) glyphs offsets accepted held low narrow tops lefts c′ d′
-
-    pub columns-rise : Rising lefts
-    columns-rise = lefts-rise (linesFrom lengths columns text) (rectsOf (o .cells) rects) glyphs offsets accepted held low narrow tops lefts c′ d′
-
-    pub columns-small : (x : ℕ) → List·Memᴰ x (linesHeld lefts) → x < 128
-    columns-small = lefts-small (linesFrom lengths columns text) (rectsOf (o .cells) rects) glyphs offsets accepted held low narrow tops lefts c′ d′
-
-    pub all-numbered : (r : Rect) → List·Memᴰ r (rectsOf (o .cells) rects) → Numbered tops lefts r
-    all-numbered = numbered (linesFrom lengths columns text) (rectsOf (o .cells) rects) glyphs offsets accepted held low narrow tops lefts c′ d′

@@ -11,10 +11,10 @@ use borrow.Author.Tests.{not-true, not-false}
 use Rattle.grid.specs.Slots.{gridOf, trimmedAt}
 use Rattle.grid.specs.Trace.{covered, stopped, trace}
 use Rattle.grid.specs.Flat.{linesFrom}
-use Rattle.grid.specs.LayoutParts.{gridAnswer}
-use Rattle.grid.specs.Arrays.{arrayGrid, rectsOf}
+use Rattle.representation.specs.LayoutParts.{gridAnswer}
+use Rattle.representation.specs.Arrays.{arrayGrid, rectsOf}
 use Rattle.grid.proofs.GlyphLaws.{trace-same}
-use Rattle.grid.proofs.HoldsLaws.{array-same}
+use Rattle.representation.proofs.HoldsLaws.{array-same}
 use Rattle.grid.proofs.SlotLaws.{lines-length}
 use Rattle.grid.proofs.CoverTheorems.{stopped-six-or-seven}
 use Rattle.slots.specs.Filling.{AllFilled}
@@ -22,8 +22,8 @@ use Rattle.slots.specs.declared.Filled.{Filled}
 use Rattle.trace.specs.Tracing.{tracedOf, countOf}
 use Rattle.trace.specs.declared.Traced as tracing
 use Rattle.trace.specs.declared.Traced.the-variants.{Covered, Stopped}
-use Rattle.trace_count.specs.Count.{numberOf}
-use Rattle.trace_count.specs.declared.Counted.{Counted}
+use Rattle.trace.specs.Count.{numberOf}
+use Rattle.trace.specs.declared.count.Counted.{Counted}
 use Rattle.reading.specs.Call.{Through}
 
 module _ (lengths columns text rects : List ℕ) {glyphs₀ offsets₀ glyphs offsets : List ℕ} {f : Filled}

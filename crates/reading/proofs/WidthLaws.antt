@@ -16,13 +16,12 @@ use Rattle.grid.specs.Limits.{maxLines, maxLineBytes, maxBytes, maxWidth, maxOr
 use Rattle.grid.specs.Slots.{trimmedAt}
 use Rattle.grid.specs.Read.{drawingTooLarge, outsideSet, noRule}
 use Rattle.grid.specs.Flat.{drawingContradicts, linesFrom, linesOf}
-use Rattle.grid.specs.LayoutCall.{slotSpace, rectSpace, spaceShort}
-use Rattle.grid.specs.LayoutParts.{widthAnswer}
+use Rattle.grid.specs.LayoutCall.{slotSpace, rectSpace, spaceShort, spaces, drawing}
+use Rattle.representation.specs.LayoutParts.{widthAnswer}
 use Rattle.grid.proofs.ReadLaws.{passed-if, passed-at}
-use Rattle.limits.specs.Agreement.{Agree, anyOver}
-use Rattle.limits.proofs.LimitLaws.{limits-apart}
-use Rattle.slots.specs.Filling.{Sheet}
-use Rattle.reading.specs.Call.{spaces, drawing}
+use Rattle.reading.specs.Agreement.{Agree, anyOver}
+use Rattle.reading.proofs.LimitLaws.{limits-apart}
+use Rattle.representation.specs.Sheet.{Sheet}
 use Rattle.reading.proofs.CheckedLaws.{agrees}
 
 none-over-limit : (limit : ℕ) (numbers : List ℕ) → anyOver limit numbers ≡ false → (i : ℕ) → getD numbers i 0 ≤ limit

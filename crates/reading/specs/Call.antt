@@ -7,22 +7,15 @@ use Rattle.grid.specs.Answer.{Answer, accept, refuse}
 use Rattle.grid.specs.Limits.{maxBytes}
 use Rattle.grid.specs.Values.{Rect}
 use Rattle.grid.specs.Slots.{Grid, gridOf}
-use Rattle.grid.specs.Flat.{FlatDrawing, linesFrom}
-use Rattle.grid.specs.LayoutCall.{LayoutSpace, rectSpace}
-use Rattle.grid.specs.LayoutParts.{gridAnswer}
-use Rattle.grid.specs.Arrays.{Holds, Roomy, rectsOf}
-use Rattle.slots.specs.Filling.{Sheet, separatorLines}
+use Rattle.grid.specs.Flat.{linesFrom}
+use Rattle.grid.specs.LayoutCall.{rectSpace}
+use Rattle.representation.specs.LayoutParts.{gridAnswer}
+use Rattle.representation.specs.Arrays.{Holds, Roomy, rectsOf}
+use Rattle.slots.specs.Filling.{separatorLines}
+use Rattle.representation.specs.Sheet.{Sheet}
 use Rattle.reading.specs.declared.Measured.{Measured}
 use Rattle.reading.specs.declared.Measured.the-variants.{Width, Refused}
 use Rattle.reading.specs.declared.Outcome.{Outcome}
-
--- the arguments as lent
-abbrev pub spaces : List ℕ → List ℕ → List ℕ → List ℕ → List ℕ → LayoutSpace
-spaces glyphs offsets down right rects =
-    record { glyphs = length glyphs; offsets = length offsets; down = length down; right = length right; rects = length rects }
-
-abbrev pub drawing : ℕ → ℕ → List ℕ → List ℕ → List ℕ → FlatDrawing
-drawing lines bytes lengths columns text = record { lines = lines; bytes = bytes; lengths = lengths; columns = columns; text = text }
 
 -- what the checks up to the width answer
 abbrev pub checkedOf : Measured → Answer ℕ

@@ -1,18 +1,21 @@
 // Reading a drawing up to its traced rectangles, in the order of the checks (layout.rs: layout).
-use checks::Place;
-use checks::contradicts;
-use checks::first_outside;
-use limits::space_short;
-use limits::too_large;
-use limits::too_wide;
-use reach::reach_down;
-use reach::reach_right;
-use rule::is_rule;
+pub mod checks;
+pub mod limits;
+
+use crate::checks::Place;
+use crate::checks::contradicts;
+use crate::checks::first_outside;
+use crate::limits::space_short;
+use crate::limits::too_large;
+use crate::limits::too_wide;
+use rule_lines::rule::is_rule;
+use rule_lines::trim::trim_end;
 use slots::Separators;
 use slots::fill::fill;
+use slots::reach::reach_down;
+use slots::reach::reach_right;
+use trace::count::count;
 use trace::trace;
-use trace_count::count;
-use trim::trim_end;
 ghost use Prim.Native.Nat.{_≤_, _<_};
 ghost use mathlib.Core.Path.{_≡_};
 ghost use mathlib.Core.List.{[]};
@@ -21,11 +24,11 @@ ghost use Rattle.seq.specs.Lists.{sum};
 ghost use Rattle.text.specs.Trim.{trimEnd};
 ghost use Rattle.grid.specs.Slots.{gridOf, trimmedAt};
 ghost use Rattle.grid.specs.Flat.{splitText, linesFrom};
-ghost use Rattle.grid.specs.LayoutCall.{slotSpace, rectSpace};
-ghost use Rattle.grid.specs.LayoutParts.{rectsAnswer, widthAnswer};
-ghost use Rattle.grid.specs.Arrays.{Roomy};
-ghost use Rattle.slots.specs.Filling.{Sheet};
-ghost use Rattle.reading.specs.Call.{spaces, drawing, checkedOf, Through, Reading};
+ghost use Rattle.grid.specs.LayoutCall.{slotSpace, rectSpace, spaces, drawing};
+ghost use Rattle.representation.specs.LayoutParts.{rectsAnswer, widthAnswer};
+ghost use Rattle.representation.specs.Arrays.{Roomy};
+ghost use Rattle.representation.specs.Sheet.{Sheet};
+ghost use Rattle.reading.specs.Call.{checkedOf, Through, Reading};
 
 // What the checks up to the width give.
 pub enum Measured {
@@ -119,8 +122,12 @@ fn trace_lines(
     requires { ⌜ Roomy (length (now lengths)) width (now glyphs) (now offsets) ⌝ }
     requires { ⌜ (slotSpace ≤ length (now down)) × (slotSpace ≤ length (now right)) × (rectSpace ≤ length (now rects)) ⌝ }
     requires { ⌜ width ≡ length (trimmedAt (linesFrom (now lengths) (now columns) (now text)) 0) ⌝ }
-    ensures { λ _. ⌜ (length (now (glyphs .exit)) ≡ length (now (glyphs .entry))) × (length (now (offsets .exit)) ≡ length (now (offsets .entry))) × (length (now (rects .exit)) ≡ length (now (rects .entry))) ⌝ }
-    ensures { λ r. ⌜ Through (gridOf (linesFrom (now (lengths .entry)) (now (columns .entry)) (now (text .entry)))) (now (glyphs .exit)) (now (offsets .exit)) (now (rects .exit)) r ⌝ }
+    ensures { λ r.
+        let drawn = linesFrom (now (lengths .entry)) (now (columns .entry)) (now (text .entry)) in
+        let g = gridOf drawn in
+        ⌜ ((length (now (glyphs .exit)) ≡ length (now (glyphs .entry))) × (length (now (offsets .exit)) ≡ length (now (offsets .entry)))
+        × (length (now (rects .exit)) ≡ length (now (rects .entry))))
+        × Through g (now (glyphs .exit)) (now (offsets .exit)) (now (rects .exit)) r ⌝ }
 {
     let filled = fill(lengths, columns, text, width, glyphs, offsets);
     let separators = filled.separators;
@@ -176,7 +183,11 @@ pub fn read(
     right: &mut [u8],
     rects: &mut [u8],
 ) -> Outcome
-    ensures { λ r. ⌜ Reading (rectsAnswer (spaces (now (glyphs .entry)) (now (offsets .entry)) (now (down .entry)) (now (right .entry)) (now (rects .entry))) (drawing lines bytes (now (lengths .entry)) (now (columns .entry)) (now (text .entry)))) (now (lengths .entry)) (now (columns .entry)) (now (text .entry)) (now (glyphs .exit)) (now (offsets .exit)) (now (rects .exit)) r ⌝ }
+    ensures { λ r.
+        let space = spaces (now (glyphs .entry)) (now (offsets .entry)) (now (down .entry)) (now (right .entry)) (now (rects .entry)) in
+        let given = drawing lines bytes (now (lengths .entry)) (now (columns .entry)) (now (text .entry)) in
+        ⌜ Reading (rectsAnswer space given) (now (lengths .entry)) (now (columns .entry)) (now (text .entry))
+        (now (glyphs .exit)) (now (offsets .exit)) (now (rects .exit)) r ⌝ }
 {
     if space_short(
         glyphs.len(),

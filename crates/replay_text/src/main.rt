@@ -100,14 +100,14 @@ fn print(n: usize) {
 fn answer_trim(hex: &[u8]) {
     let mut bytes = io::buffer();
     let n = unhex(hex, &mut bytes);
-    let kept = trim::trim_end(&bytes[..n]);
+    let kept = rule_lines::trim::trim_end(&bytes[..n]);
     print(kept.len());
 }
 
 fn answer_rule(fill: &[u8], hex: &[u8]) {
     let mut bytes = io::buffer();
     let n = unhex(hex, &mut bytes);
-    let is_rule = rule::is_rule(&bytes[..n], byte_number(fill));
+    let is_rule = rule_lines::rule::is_rule(&bytes[..n], byte_number(fill));
     print(is_rule as usize);
 }
 

@@ -15,7 +15,7 @@ use Rattle.text.specs.Rule.{isRule}
 use Rattle.text.proofs.TrimLaws.{trim-shorter}
 use Rattle.text.proofs.PartLaws.{well-trimmed}
 use Rattle.grid.specs.Slots.{slotsFrom, lineSlots}
-use Rattle.line_slots.specs.Line.{LineFilled}
+use Rattle.slots.specs.Line.{LineFilled}
 use Rattle.slots.specs.Filling.{separates, separatorLines, NextFilled}
 use Rattle.slots.specs.declared.Separators.{Separators}
 

@@ -19,13 +19,14 @@ use Rattle.text.specs.Rule.{isRule}
 use Rattle.grid.specs.Flat.{linesFrom}
 use Rattle.grid.specs.Values.{Line}
 use Rattle.grid.specs.Slots.{Slot, lineSlots, isSeparator, trimmedAt, gridOf}
-use Rattle.grid.specs.Arrays.{glyphCode, glyphCodes, slotBytes, Roomy}
+use Rattle.representation.specs.Arrays.{glyphCode, glyphCodes, slotBytes, Roomy}
 use Rattle.grid.proofs.SlotLaws.{lines-length, line-at, line-well, rowAt, rows-length, row-at, wrong-row, no-wrong-row}
 use Rattle.slots.specs.declared.Separators.{Separators}
 use Rattle.slots.specs.declared.Filled.{Filled}
-use Rattle.slots.specs.Filling.{Sheet, separates, separatorLines, NextRoom, NextFilled, AllFilled}
-use Rattle.glyphs.specs.Replaced.{replaced}
-use Rattle.glyphs.proofs.ReplaceLaws.{part-before, part-replaced}
+use Rattle.slots.specs.Filling.{separates, separatorLines, NextRoom, NextFilled, AllFilled}
+use Rattle.representation.specs.Sheet.{Sheet}
+use Rattle.slots.specs.Replaced.{replaced}
+use Rattle.slots.proofs.ReplaceLaws.{part-before, part-replaced}
 
 -- an array with rows of slots from each y * 128 on, and one row more
 rows-more : (f : Slot → ℕ) (row : ℕ → List Slot) (width y : ℕ) (array array′ : List ℕ) → width ≤ 128 → y * 128 + width ≤ length array

@@ -4,28 +4,17 @@ use mathlib.Core.Path.{_≡_}
 use mathlib.Core.Bool.{Bool, true, false, _&&_, _||_, cond}
 use mathlib.Core.List.{List, [], _∷_, _++_}
 use mathlib.Core.Option.{none, some}
-use lib.ListN.{length, take, getD}
+use lib.ListN.{length, take}
 use lib.Dec.{eqb, ltb}
-use Rattle.seq.specs.Lists.{sum}
 use Rattle.text.specs.Utf8.{wellFormed}
 use Rattle.text.specs.Rule.{isRule}
 use Rattle.text.specs.Trim.{trimEnd}
 use Rattle.grid.specs.Slots.{Grid, equals, lineSlots}
-use Rattle.grid.specs.Flat.{linesFrom}
-use Rattle.grid.specs.Read.{outsideSet, wrongWidth}
-use Rattle.grid.specs.Arrays.{Holds}
-use Rattle.line_slots.specs.Line.{LineFilled}
+use Rattle.grid.specs.Read.{wrongWidth}
+use Rattle.representation.specs.Arrays.{Holds}
+use Rattle.slots.specs.Line.{LineFilled}
 use Rattle.slots.specs.declared.Separators.{Separators}
 use Rattle.slots.specs.declared.Filled.{Filled}
-
--- arrays that agree, within the limits, with every character in the set
-pub record Sheet (lengths columns text : List ℕ) : Type 0 where
-  pub columnsAgree : length columns ≡ length lengths
-  pub bytesAgree : sum lengths ≡ length text
-  pub fewLines : length lengths ≤ 128
-  pub shortLines : (y : ℕ) → getD lengths y 0 ≤ 512
-  pub nearColumns : (y : ℕ) → getD columns y 0 ≤ 255
-  pub inSet : outsideSet (linesFrom lengths columns text) ≡ none
 
 -- the separators that an array holds
 abbrev pub separatorLines : Separators → List ℕ

@@ -1,1 +1,4 @@
 pub mod Filling
+pub mod Replaced
+pub mod Line
+pub mod Reaching

@@ -1,11 +1,11 @@
 // Slots, line by line.
 use crate::Filled;
 use crate::Separators;
-use grid::STRIDE;
-use line_slots::fill_line;
-use rule::is_rule;
+use crate::line::fill_line;
+use representation::STRIDE;
+use rule_lines::rule::is_rule;
+use rule_lines::trim::trim_end;
 use text::Column;
-use trim::trim_end;
 ghost use Prim.Native.Nat.{_+_, _≤_, _<_};
 ghost use mathlib.Core.Path.{_≡_};
 ghost use mathlib.Core.Bool.{cond, _&&_};
@@ -15,8 +15,9 @@ ghost use lib.ListN.{length};
 ghost use Rattle.text.specs.Rule.{isRule};
 ghost use Rattle.grid.specs.Flat.{linesFrom};
 ghost use Rattle.grid.specs.Slots.{gridOf, trimmedAt};
-ghost use Rattle.grid.specs.Arrays.{Roomy};
-ghost use Rattle.slots.specs.Filling.{NextRoom, NextFilled, Sheet, separatorLines, AllFilled};
+ghost use Rattle.representation.specs.Arrays.{Roomy};
+ghost use Rattle.slots.specs.Filling.{NextRoom, NextFilled, separatorLines, AllFilled};
+ghost use Rattle.representation.specs.Sheet.{Sheet};
 
 fn is_separator(line: &[u8], y: usize) -> bool
     ensures { λ r. ⌜ r ≡ (ltb 0 y && isRule 0x3d (now (line .entry))) ⌝ }
@@ -27,7 +28,9 @@ fn is_separator(line: &[u8], y: usize) -> bool
 // The separators with line y at their end, where it is one.
 fn noted(separators: Separators, separator: bool, y: usize) -> Separators
     requires { ⌜ (separators .count < 128) × (length (separators .lines) ≡ 128) × (y < 128) ⌝ }
-    ensures { λ r. ⌜ (r .count ≤ separators .count + 1) × (length (r .lines) ≡ 128) × (separatorLines r ≡ separatorLines separators ++ cond separator (y ∷ []) []) ⌝ }
+    ensures { λ r.
+        ⌜ (r .count ≤ separators .count + 1) × (length (r .lines) ≡ 128)
+        × (separatorLines r ≡ separatorLines separators ++ cond separator (y ∷ []) []) ⌝ }
 {
     if separator {
         let mut more = separators;
@@ -51,7 +54,9 @@ fn fill_next(
     offsets: &mut [u16],
 ) -> Filled
     requires { ⌜ NextRoom (now text) (column .0) y width separators (now glyphs) (now offsets) ⌝ }
-    ensures { λ r. ⌜ NextFilled (now (text .entry)) (column .0) y width separators (now (glyphs .entry)) (now (offsets .entry)) (now (glyphs .exit)) (now (offsets .exit)) r ⌝ }
+    ensures { λ r.
+        ⌜ NextFilled (now (text .entry)) (column .0) y width separators
+        (now (glyphs .entry)) (now (offsets .entry)) (now (glyphs .exit)) (now (offsets .exit)) r ⌝ }
 {
     let line = trim_end(text);
     let separator = is_separator(line, y);
@@ -83,7 +88,10 @@ pub fn fill(
     requires { ⌜ Sheet (now lengths) (now columns) (now text) ⌝ }
     requires { ⌜ Roomy (length (now lengths)) width (now glyphs) (now offsets) ⌝ }
     requires { ⌜ width ≡ length (trimmedAt (linesFrom (now lengths) (now columns) (now text)) 0) ⌝ }
-    ensures { λ r. ⌜ AllFilled (gridOf (linesFrom (now (lengths .entry)) (now (columns .entry)) (now (text .entry)))) (now (glyphs .entry)) (now (offsets .entry)) (now (glyphs .exit)) (now (offsets .exit)) r ⌝ }
+    ensures { λ r.
+        let drawn = linesFrom (now (lengths .entry)) (now (columns .entry)) (now (text .entry)) in
+        let g = gridOf drawn in
+        ⌜ AllFilled g (now (glyphs .entry)) (now (offsets .entry)) (now (glyphs .exit)) (now (offsets .exit)) r ⌝ }
 {
     let mut separators = Separators {
         lines: [0; 128],

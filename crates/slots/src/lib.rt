@@ -1,5 +1,8 @@
 // The slots of a drawing as arrays, and its part separators (layout.rs: Grid::new).
 pub mod fill;
+pub mod glyphs;
+pub mod line;
+pub mod reach;
 
 // The part separators: the first count entries are their lines.
 pub struct Separators {

@@ -15,25 +15,26 @@ use Rattle.grid.specs.Slots.{gridOf}
 use Rattle.grid.specs.Layout.{columnLines, rowLines}
 use Rattle.grid.specs.Flat.{TableArrays, tableArrays, splitText, linesFrom, joinText}
 use Rattle.grid.specs.Limits.{maxLines, maxCells}
-use Rattle.grid.specs.Arrays.{rectsOf}
+use Rattle.representation.specs.Arrays.{rectsOf}
 use Rattle.grid.specs.TableCall.{tableOver}
-use Rattle.grid.specs.TableParts.{tableFrom, tableAnswerOf, tableSizesOf, tableArraysOf}
-use Rattle.grid.proofs.EntryLaws.{length-rects}
-use Rattle.entries.specs.Edges.{Collected, rowLinesBelow, columnLinesBelow}
-use Rattle.entries.specs.Writing.{linesHeld, Rising, Numbered, columnEntries}
-use Rattle.entries.specs.declared.Bounds.{Bounds}
-use Rattle.entries.specs.declared.Parts.{Parts}
-use Rattle.pieces.specs.Text.{source, keptLines, allLines, Ready, Framed, CountedBy, Preparable, Prepared}
-use Rattle.pieces.specs.declared.TextSize.{TextSize}
-use Rattle.table_rules.specs.Entries.{sectionEntries, tableEntries}
-use Rattle.room.specs.Room.{tooShort}
+use Rattle.representation.specs.TableParts.{tableFrom, tableAnswerOf, tableSizesOf, tableArraysOf}
+use Rattle.representation.proofs.RectsLaws.{length-rects}
+use Rattle.representation.specs.Edges.{Collected, rowLinesBelow, columnLinesBelow}
+use Rattle.representation.specs.Writing.{linesHeld, Rising, Numbered, columnEntries}
+use Rattle.representation.specs.declared.Bounds.{Bounds}
+use Rattle.representation.specs.declared.Parts.{Parts}
+use Rattle.cell.specs.Text.{source, keptLines, allLines, Ready, Framed, CountedBy, Preparable, Prepared}
+use Rattle.cell.specs.declared.pieces.TextSize.{TextSize}
+use Rattle.representation.specs.Entries.{sectionEntries, tableEntries}
+use Rattle.table.specs.Room.{tooShort}
 use Rattle.reading.specs.Call.{TracedSheet}
 use Rattle.reading.specs.declared.Outcome.{Outcome}
 use Rattle.reading.proofs.CheckedLaws.{trimmed-text}
-use Rattle.reading.proofs.SheetLaws.{some-line, cells-room, PartsFound, head-line, down-some, across-some, downs, acrosses, across-told, down-told, rows-rise, columns-rise, columns-small, all-numbered}
+use Rattle.reading.proofs.SheetLaws.{some-line, cells-room}
+use Rattle.layout.proofs.FoundLaws.{PartsFound, head-line, down-some, across-some, downs, acrosses, across-told, down-told, rows-rise, columns-rise, columns-small, all-numbered}
 use Rattle.table.specs.Needs.{Writable}
 use Rattle.table.specs.Call.{arrays}
-use Rattle.table.proofs.FrameLaws.{all-framed}
+use Rattle.cell.proofs.FrameLaws.{all-framed}
 use Rattle.table.proofs.TableLaws.{sizes-told, short-told, arrays-told}
 
 -- the tests of 12

@@ -1,5 +1,5 @@
-pub mod FrameLaws
 pub mod TableLaws
 pub mod FinishLaws
 pub mod CallLaws
-pub mod CellLaws
+pub mod CellsWriteLaws
+pub mod LinesWriteLaws

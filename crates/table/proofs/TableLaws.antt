@@ -13,21 +13,22 @@ use Rattle.grid.specs.Slots.{Grid, gridOf, trimmedAt}
 use Rattle.grid.specs.Layout.{columnLines, rowLines, rowsRead, cellRead, layoutOf}
 use Rattle.grid.specs.Cut.{tableCell, tableOf}
 use Rattle.grid.specs.Flat.{TableArrays, sectionCode, columnNumbers, tableCellNumbers, tableLines, tableSizes, tableArrays, joinText, linesFrom}
-use Rattle.grid.specs.Arrays.{rectsOf}
+use Rattle.representation.specs.Arrays.{rectsOf}
 use Rattle.grid.specs.TableCall.{tableShort}
-use Rattle.grid.specs.TableParts.{tableFrom}
+use Rattle.representation.specs.TableParts.{tableFrom}
 use Rattle.grid.proofs.SizeLaws.{columns-count, rows-count}
-use Rattle.entries.specs.Writing.{columnEntries}
-use Rattle.entries.specs.declared.Parts.{Parts}
-use Rattle.entries.proofs.AgreeLaws.{columns-agree}
-use Rattle.pieces.specs.Text.{source, keptLines, allLines}
-use Rattle.table_rules.specs.Entries.{sectionEntries, tableEntries}
-use Rattle.table_rules.proofs.EntryLaws.{cellOf, cells-told, sections-told}
+use Rattle.representation.specs.Writing.{columnEntries}
+use Rattle.representation.specs.declared.Parts.{Parts}
+use Rattle.representation.proofs.AgreeLaws.{columns-agree}
+use Rattle.cell.specs.Text.{source, keptLines, allLines}
+use Rattle.representation.specs.Entries.{sectionEntries, tableEntries}
+use Rattle.representation.proofs.EntryLaws.{cellOf, cells-told, sections-told}
 use Rattle.reading.specs.Call.{TracedSheet}
 use Rattle.reading.specs.declared.Outcome.{Outcome}
-use Rattle.reading.proofs.SheetLaws.{tall, all-laid, PartsFound, headed, footed}
+use Rattle.reading.proofs.SheetLaws.{tall, all-laid}
+use Rattle.layout.proofs.FoundLaws.{PartsFound, headed, footed}
 use Rattle.table.specs.Call.{arrays}
-use Rattle.table.proofs.FrameLaws.{kept-told}
+use Rattle.cell.proofs.FrameLaws.{kept-told}
 
 module _ (lengths columns text glyphs offsets rects : List ℕ) (o : Outcome) (t : TracedSheet lengths columns text glyphs offsets rects o) (starts : List ℕ) where
   abbrev lines : List Line

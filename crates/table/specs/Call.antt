@@ -1,10 +1,8 @@
 -- The answer and arrays of the table call, in the terms of the definitions.
 use Prim.Native.Nat.{ℕ}
 use mathlib.Core.List.{List}
-use lib.ListN.{length}
 use Rattle.grid.specs.Answer.{Answer, accept, refuse}
 use Rattle.grid.specs.Flat.{TableSizes, TableArrays}
-use Rattle.grid.specs.TableCall.{TableSpace}
 use Rattle.table.specs.declared.TableAnswer.{TableAnswer}
 use Rattle.table.specs.declared.TableAnswer.the-variants.{Accepted, Refused}
 
@@ -15,8 +13,5 @@ answerOf (Accepted columns rows cells lines bytes) =
 answerOf (Refused number place) = refuse number place
 
 -- the arrays as lent
-abbrev pub space : List ℕ → List ℕ → TableSpace
-space starts counts = record { starts = length starts; counts = length counts }
-
 abbrev pub arrays : List ℕ → List ℕ → List ℕ → List ℕ → List ℕ → TableArrays
 arrays columns sections cells lengths text = record { columns = columns; sections = sections; cells = cells; lengths = lengths; text = text }

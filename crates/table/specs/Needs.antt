@@ -3,10 +3,10 @@ use Prim.Native.Nat.{ℕ, _*_, _-_, _≤_}
 use mathlib.Core.List.{List}
 use lib.ListN.{length}
 use Rattle.grid.specs.Flat.{TableArrays, joinText}
-use Rattle.grid.specs.Arrays.{rectsOf}
-use Rattle.entries.specs.Edges.{Collected, rowLinesBelow, columnLinesBelow}
-use Rattle.entries.specs.declared.Bounds.{Bounds}
-use Rattle.pieces.specs.Text.{source, keptLines, allLines, Ready, CountedBy}
+use Rattle.representation.specs.Arrays.{rectsOf}
+use Rattle.representation.specs.Edges.{Collected, rowLinesBelow, columnLinesBelow}
+use Rattle.representation.specs.declared.Bounds.{Bounds}
+use Rattle.cell.specs.Text.{source, keptLines, allLines, Ready, CountedBy}
 use Rattle.reading.specs.Call.{TracedSheet}
 use Rattle.reading.specs.declared.Outcome.{Outcome}
 

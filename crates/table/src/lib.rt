@@ -1,31 +1,33 @@
-// From a drawing to its table, and to the cut lines of one cell (mod.rs: build_grid_table).
-use bounds::col_bounds;
-use bounds::row_bounds;
-use cell_answer::CellAnswer;
-use cell_answer::finish_cell;
-use entries::Bounds;
-use line_entries::write_columns;
-use pieces::prepare;
+// From a drawing to its table (mod.rs: build_grid_table).
+pub mod cells;
+pub mod lines;
+pub mod room;
+
+use crate::cells::write_sections;
+use crate::cells::write_table_cells;
+use crate::lines::write_text;
+use crate::room::lacks_room;
+use cell::pieces::prepare;
+use layout::bounds::col_bounds;
+use layout::bounds::row_bounds;
+use layout::line_entries::write_columns;
+use layout::sections::find_parts;
 use reading::Outcome;
 use reading::read;
 use reading::trimmed_line;
-use room::lacks_room;
-use sections::find_parts;
-use table_entries::write_sections;
-use table_entries::write_table_cells;
-use table_text::write_text;
+use representation::Bounds;
 ghost use Prim.Native.Nat.{_≤_};
 ghost use mathlib.Core.Path.{_≡_};
 ghost use lib.ListN.{length};
 ghost use Rattle.grid.specs.Flat.{linesFrom, tableArrays};
 ghost use Rattle.grid.specs.Limits.{maxLines, maxCells};
-ghost use Rattle.grid.specs.TableCall.{tableOver, tableAnswer, tableAfterwards, cellAnswer, cellAfterwards};
-ghost use Rattle.grid.specs.TableParts.{tableFrom, tableSizesOf, tableArraysOf};
-ghost use Rattle.grid.specs.Arrays.{rectsOf};
-ghost use Rattle.reading.specs.Call.{spaces, drawing, TracedSheet};
+ghost use Rattle.grid.specs.TableCall.{tableOver, tableAnswer, tableAfterwards, tableSpaces};
+ghost use Rattle.representation.specs.TableParts.{tableFrom, tableSizesOf, tableArraysOf};
+ghost use Rattle.representation.specs.Arrays.{rectsOf};
+ghost use Rattle.reading.specs.Call.{TracedSheet};
+ghost use Rattle.grid.specs.LayoutCall.{spaces, drawing};
 ghost use Rattle.table.specs.Needs.{Writable};
-ghost use Rattle.cell_answer.specs.Answer.{cellAnswerOf};
-ghost use Rattle.table.specs.Call.{answerOf, space, arrays};
+ghost use Rattle.table.specs.Call.{answerOf, arrays};
 
 const MAX_LINES: usize = 128;
 
@@ -65,8 +67,14 @@ fn write_table(
     out_lengths: &mut [u16],
     out_text: &mut [u8],
 )
-    requires { ⌜ Writable (now lengths) (now columns) (now text) (now glyphs) (now offsets) (now rects) outcome (now starts) (now counts) tops lefts (arrays (now cols) (now sections) (now cells) (now «out_lengths») (now «out_text»)) ⌝ }
-    ensures { λ _. ⌜ arrays (now (cols .exit)) (now (sections .exit)) (now (cells .exit)) (now («out_lengths» .exit)) (now («out_text» .exit)) ≡ tableOver (tableArrays (tableFrom (linesFrom (now (lengths .entry)) (now (columns .entry)) (now (text .entry))) (rectsOf (outcome .cells) (now (rects .entry))))) (arrays (now (cols .entry)) (now (sections .entry)) (now (cells .entry)) (now («out_lengths» .entry)) (now («out_text» .entry))) ⌝ }
+    requires { let out = arrays (now cols) (now sections) (now cells) (now «out_lengths») (now «out_text») in
+        ⌜ Writable (now lengths) (now columns) (now text) (now glyphs) (now offsets) (now rects) outcome (now starts) (now counts) tops lefts out ⌝ }
+    ensures { λ _.
+        let before = arrays (now (cols .entry)) (now (sections .entry)) (now (cells .entry)) (now («out_lengths» .entry)) (now («out_text» .entry)) in
+        let after = arrays (now (cols .exit)) (now (sections .exit)) (now (cells .exit)) (now («out_lengths» .exit)) (now («out_text» .exit)) in
+        let rs = rectsOf (outcome .cells) (now (rects .entry)) in
+        let drawn = linesFrom (now (lengths .entry)) (now (columns .entry)) (now (text .entry)) in
+        ⌜ after ≡ tableOver (tableArrays (tableFrom drawn rs)) before ⌝ }
 {
     let height = lengths.len();
     let n = outcome.cells;
@@ -111,8 +119,12 @@ fn finish(
 ) -> TableAnswer
     requires { ⌜ TracedSheet (now lengths) (now columns) (now text) (now glyphs) (now offsets) (now rects) outcome ⌝ }
     requires { ⌜ (maxLines ≤ length (now starts)) × (maxCells ≤ length (now counts)) ⌝ }
-    ensures { λ r. ⌜ answerOf r ≡ tableSizesOf (linesFrom (now (lengths .entry)) (now (columns .entry)) (now (text .entry))) (rectsOf (outcome .cells) (now (rects .entry))) (arrays (now (cols .entry)) (now (sections .entry)) (now (cells .entry)) (now («out_lengths» .entry)) (now («out_text» .entry))) ⌝ }
-    ensures { λ _. ⌜ arrays (now (cols .exit)) (now (sections .exit)) (now (cells .exit)) (now («out_lengths» .exit)) (now («out_text» .exit)) ≡ tableArraysOf (linesFrom (now (lengths .entry)) (now (columns .entry)) (now (text .entry))) (rectsOf (outcome .cells) (now (rects .entry))) (arrays (now (cols .entry)) (now (sections .entry)) (now (cells .entry)) (now («out_lengths» .entry)) (now («out_text» .entry))) ⌝ }
+    ensures { λ r.
+        let before = arrays (now (cols .entry)) (now (sections .entry)) (now (cells .entry)) (now («out_lengths» .entry)) (now («out_text» .entry)) in
+        let after = arrays (now (cols .exit)) (now (sections .exit)) (now (cells .exit)) (now («out_lengths» .exit)) (now («out_text» .exit)) in
+        let rs = rectsOf (outcome .cells) (now (rects .entry)) in
+        let drawn = linesFrom (now (lengths .entry)) (now (columns .entry)) (now (text .entry)) in
+        ⌜ (answerOf r ≡ tableSizesOf drawn rs before) × (after ≡ tableArraysOf drawn rs before) ⌝ }
 {
     let n = outcome.cells;
     let tops = row_bounds(rects, n, lengths.len());
@@ -185,8 +197,14 @@ pub fn table(
     out_lengths: &mut [u16],
     out_text: &mut [u8],
 ) -> TableAnswer
-    ensures { λ r. ⌜ answerOf r ≡ tableAnswer (spaces (now (glyphs .entry)) (now (offsets .entry)) (now (down .entry)) (now (right .entry)) (now (rects .entry))) (space (now (starts .entry)) (now (counts .entry))) (drawing lines bytes (now (lengths .entry)) (now (columns .entry)) (now (text .entry))) (arrays (now (cols .entry)) (now (sections .entry)) (now (cells .entry)) (now («out_lengths» .entry)) (now («out_text» .entry))) ⌝ }
-    ensures { λ _. ⌜ arrays (now (cols .exit)) (now (sections .exit)) (now (cells .exit)) (now («out_lengths» .exit)) (now («out_text» .exit)) ≡ tableAfterwards (spaces (now (glyphs .entry)) (now (offsets .entry)) (now (down .entry)) (now (right .entry)) (now (rects .entry))) (space (now (starts .entry)) (now (counts .entry))) (drawing lines bytes (now (lengths .entry)) (now (columns .entry)) (now (text .entry))) (arrays (now (cols .entry)) (now (sections .entry)) (now (cells .entry)) (now («out_lengths» .entry)) (now («out_text» .entry))) ⌝ }
+    ensures { λ r.
+        let space = spaces (now (glyphs .entry)) (now (offsets .entry)) (now (down .entry)) (now (right .entry)) (now (rects .entry)) in
+        let more = tableSpaces (now (starts .entry)) (now (counts .entry)) in
+        let given = drawing lines bytes (now (lengths .entry)) (now (columns .entry)) (now (text .entry)) in
+        let before = arrays (now (cols .entry)) (now (sections .entry)) (now (cells .entry)) (now («out_lengths» .entry)) (now («out_text» .entry)) in
+        let after = arrays (now (cols .exit)) (now (sections .exit)) (now (cells .exit)) (now («out_lengths» .exit)) (now («out_text» .exit)) in
+        ⌜ (answerOf r ≡ tableAnswer space more given before)
+        × (after ≡ tableAfterwards space more given before) ⌝ }
 {
     if (starts.len() < MAX_LINES) | (counts.len() < MAX_CELLS) {
         return TableAnswer::Refused {
@@ -227,63 +245,5 @@ pub fn table(
         cells,
         out_lengths,
         out_text,
-    )
-}
-
-// The cut lines of cell k of a drawing, blank ones too: for each inner line its index, where its cut
-// starts and ends in it, and its column. Working space: glyphs, offsets, down and right of 16,384
-// entries each, rects of 4,096, starts of 128.
-pub fn cell(
-    lines: usize,
-    bytes: usize,
-    lengths: &[u16],
-    columns: &[u16],
-    text: &[u8],
-    glyphs: &mut [u8],
-    offsets: &mut [u16],
-    down: &mut [u8],
-    right: &mut [u8],
-    rects: &mut [u8],
-    starts: &mut [u16],
-    k: usize,
-    out: &mut [u16],
-) -> CellAnswer
-    ensures { λ r. ⌜ cellAnswerOf r ≡ cellAnswer (spaces (now (glyphs .entry)) (now (offsets .entry)) (now (down .entry)) (now (right .entry)) (now (rects .entry))) (length (now (starts .entry))) (drawing lines bytes (now (lengths .entry)) (now (columns .entry)) (now (text .entry))) k (now (out .entry)) ⌝ }
-    ensures { λ _. ⌜ now (out .exit) ≡ cellAfterwards (spaces (now (glyphs .entry)) (now (offsets .entry)) (now (down .entry)) (now (right .entry)) (now (rects .entry))) (length (now (starts .entry))) (drawing lines bytes (now (lengths .entry)) (now (columns .entry)) (now (text .entry))) k (now (out .entry)) ⌝ }
-{
-    if starts.len() < MAX_LINES {
-        return CellAnswer::Refused {
-            number: 13,
-            place: 0,
-        };
-    }
-    let outcome = read(
-        lines,
-        bytes,
-        lengths,
-        columns,
-        text,
-        glyphs,
-        offsets,
-        down,
-        right,
-        rects,
-    );
-    if outcome.number != 0 {
-        return CellAnswer::Refused {
-            number: outcome.number,
-            place: outcome.place,
-        };
-    }
-    finish_cell(
-        lengths,
-        columns,
-        text,
-        offsets,
-        rects,
-        outcome.cells,
-        starts,
-        k,
-        out,
     )
 }

@@ -18,7 +18,7 @@ use Rattle.grid.specs.Cut.{tableCell, tableOf}
 use Rattle.grid.specs.Read.{readTable}
 use Rattle.grid.specs.Flat.{TableArrays, columnNumbers, tableCellNumbers, sectionCode, tableLines, joinText, tableArrays}
 use Rattle.grid.specs.TableCall.{tableShort}
-use Rattle.grid.specs.TableParts.{tableFrom}
+use Rattle.representation.specs.TableParts.{tableFrom}
 use Rattle.grid.proofs.LayoutLaws.{columnLines-few, rowLines-few}
 use Rattle.grid.proofs.SizeLaws.{columns-count, rows-count}
 use Rattle.grid.proofs.ReadLaws.{Passed, passed, height-of, read-cover, read-few, read-limited, read-narrow, table-read}

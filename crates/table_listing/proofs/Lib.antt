@@ -1,2 +1,5 @@
+pub mod InputLaws
 pub mod FitLaws
 pub mod ListedLaws
+pub mod TextLaws
+pub mod CellLaws

@@ -18,16 +18,16 @@ use Rattle.grid.specs.Values.{Line, Table}
 use Rattle.grid.specs.Read.{readTable}
 use Rattle.grid.specs.Flat.{FlatDrawing, TableSizes, TableArrays, drawingContradicts, splitText, linesOf, tableCellNumbers, tableLines, joinText, tableSizes, tableArrays, tableOfArrays}
 use Rattle.grid.specs.LayoutCall.{LayoutSpace, spaceShort}
-use Rattle.grid.specs.TableCall.{TableSpace, startsShort, tableSpaceShort, tableShort, tableOver, tableAccepts, tableAnswer, tableAfterwards}
+use Rattle.grid.specs.TableCall.{TableSpace, startsShort, tableSpaceShort, tableShort, tableOver, tableAccepts, tableAnswer, tableAfterwards, tableSpaces}
 use Rattle.grid.specs.CellListing.{cellListed, cellsListed}
 use Rattle.grid.proofs.FlatTableLaws.{table-again}
-use Rattle.table.specs.Call.{answerOf, space, arrays}
+use Rattle.table.specs.Call.{answerOf, arrays}
 use Rattle.table.specs.declared.TableAnswer.{TableAnswer}
 use Rattle.table.specs.declared.TableAnswer.the-variants.{Accepted, Refused}
 use Rattle.printing.specs.Printing.{Prints, refusedLine}
 use Rattle.printing.proofs.PutLaws.{prints-as}
 use Rattle.input_lines.proofs.SheetLaws.{zeroes, length-zeroes, sheetOf, sheet-agrees, sheet-lines, freshSpace, fresh-enough}
-use Rattle.cell_printing.specs.Printing.{cellsOf, tableListed}
+use Rattle.table_listing.specs.Printing.{cellsOf, tableListed}
 use Rattle.table_listing.specs.Listed.{linesListed, Told}
 use Rattle.table_listing.proofs.FitLaws.{read-small, Rooms, small-fits}
 
@@ -118,7 +118,7 @@ module _ (w : LayoutSpace) (s : TableSpace) (d : FlatDrawing) (out : TableArrays
 -- The lines that are handed in, with fresh working space
 
 abbrev freshTable : TableSpace
-freshTable = space (zeroes 128) (zeroes 1024)
+freshTable = tableSpaces (zeroes 128) (zeroes 1024)
 
 fresh-wide : tableSpaceShort freshTable ≡ false
 unfolding tableSpaceShort startsShort

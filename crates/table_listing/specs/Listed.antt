@@ -9,7 +9,7 @@ use Rattle.grid.specs.CellListing.{cellsListed}
 use Rattle.table.specs.declared.TableAnswer.{TableAnswer}
 use Rattle.table.specs.declared.TableAnswer.the-variants.{Accepted, Refused}
 use Rattle.printing.specs.Printing.{refusedLine}
-use Rattle.cell_printing.specs.Printing.{tableListed}
+use Rattle.table_listing.specs.Printing.{tableListed}
 use Rattle.input_lines.specs.Sheet.{linesAt0}
 
 abbrev pub linesListed : List (List ℕ) → List ℕ

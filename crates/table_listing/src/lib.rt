@@ -1,84 +1,27 @@
-// The cells of a drawing's lines, from the table call's answer.
-use cell_printing::table_cells;
+// What the program `cells` prints for what it reads, as one function on bytes.
+pub mod lines;
+pub mod print;
+
+use crate::lines::list_lines;
+use input_lines::Split;
+use input_lines::split_lines;
 use printing::refused;
-use table::TableAnswer;
 ghost use Prim.Native.Nat.{_≤_};
-ghost use mathlib.Core.Path.{_≡_};
 ghost use lib.ListN.{length};
-ghost use Rattle.seq.specs.Lists.{sum};
-ghost use Rattle.grid.specs.Flat.{splitText};
+ghost use Rattle.grid.specs.CellListing.{cellListing};
 ghost use Rattle.printing.specs.Printing.{Prints};
-ghost use Rattle.table_listing.specs.Listed.{linesListed, Told};
 
-// The table of a drawing's lines, all at column 0, with working space as the call names it.
-fn lines_table(
-    lengths: &[u16],
-    text: &[u8],
-    cells: &mut [u16],
-    kept_lengths: &mut [u16],
-    kept_text: &mut [u8],
-) -> TableAnswer
-    requires { ⌜ (length (now lengths) ≤ 128) × (sum (now lengths) ≡ length (now text)) ⌝ }
-    requires { ⌜ (length (now cells) ≡ 5120) × (length (now «kept_lengths») ≡ 16384) × (length (now «kept_text») ≡ 32768) ⌝ }
-    ensures { λ r. ⌜ Told (now (lengths .entry)) (now (text .entry)) (now (cells .exit)) (now («kept_lengths» .exit)) (now («kept_text» .exit)) r ⌝ }
+// Writes the cells of `input` at the start of `out` and counts the bytes. The longest has 111
+// bytes for the sizes, 110 for each of 1,024 cells, a number taken as 20 digits, 3 for each of
+// 16,384 lines and 32,768 of text.
+pub fn list_cells(input: &[u8], out: &mut [u8]) -> usize
+    requires { ⌜ 196608 ≤ length (now out) ⌝ }
+    ensures { λ r. ⌜ Prints (now (out .exit)) r (cellListing (now (input .entry))) ⌝ }
 {
-    let lines = lengths.len();
-    let origins = [0u16; 128];
-    let mut glyphs = [0u8; 16384];
-    let mut offsets = [0u16; 16384];
-    let mut down = [0u8; 16384];
-    let mut right = [0u8; 16384];
-    let mut rects = [0u8; 4096];
-    let mut starts = [0u16; 128];
-    let mut counts = [0u8; 1024];
-    let mut cols = [0u16; 254];
-    let mut sections = [0u8; 127];
-    table::table(
-        lines,
-        text.len(),
-        lengths,
-        &origins[0..lines],
-        text,
-        &mut glyphs,
-        &mut offsets,
-        &mut down,
-        &mut right,
-        &mut rects,
-        &mut starts,
-        &mut counts,
-        &mut cols,
-        &mut sections,
-        cells,
-        kept_lengths,
-        kept_text,
-    )
-}
-
-// The cells of a drawing's lines, all at column 0.
-pub fn list_lines(lengths: &[u16], text: &[u8], out: &mut [u8]) -> usize
-    requires { ⌜ (length (now lengths) ≤ 128) × (sum (now lengths) ≡ length (now text)) × (196608 ≤ length (now out)) ⌝ }
-    ensures { λ r. ⌜ Prints (now (out .exit)) r (linesListed (splitText (now (lengths .entry)) (now (text .entry)))) ⌝ }
-{
-    // They hold every table.
-    let mut cells = [0u16; 5120];
-    let mut kept_lengths = [0u16; 16384];
-    let mut kept_text = [0u8; 32768];
-    match lines_table(lengths, text, &mut cells, &mut kept_lengths, &mut kept_text) {
-        TableAnswer::Refused { number, place } => refused(number, place, out),
-        TableAnswer::Accepted {
-            columns: across,
-            rows: tall,
-            cells: count,
-            lines: kept,
-            bytes: weight,
-        } => table_cells(
-            across,
-            tall,
-            count,
-            &cells[0..5 * count],
-            &kept_lengths[0..kept],
-            &kept_text[0..weight],
-            out,
-        ),
+    let mut lengths = [0u16; 128];
+    let mut text = [0u8; 32768];
+    match split_lines(input, &mut lengths, &mut text) {
+        Split::TooLarge => refused(2, 0, out),
+        Split::Lines { lines, bytes } => list_lines(&lengths[0..lines], &text[0..bytes], out),
     }
 }

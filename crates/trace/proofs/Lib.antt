@@ -1,1 +1,4 @@
 mod TracingLaws
+pub mod PlacingLaws
+mod SearchLaws
+pub mod SkyLaws

@@ -14,7 +14,7 @@ use Rattle.seq.specs.Lists.{someIf}
 use Rattle.seq.proofs.Tests.{true-not-false, or-left, or-right, le-or-lt}
 use Rattle.grid.specs.Values.{Rect}
 use Rattle.grid.specs.Slots.{Grid}
-use Rattle.grid.specs.Arrays.{arrayGrid, rectsOf}
+use Rattle.representation.specs.Arrays.{arrayGrid, rectsOf}
 use Rattle.grid.specs.LayoutCall.{rectSpace}
 use Rattle.grid.specs.Rectangle.{firstRect}
 use Rattle.grid.specs.Trace.{Traced, covered, stopped, placed, lowest, leftmost, standsLevel, raise, keepLevel, nextRect, allDown, traceFrom, trace}
@@ -22,16 +22,16 @@ use Rattle.grid.specs.Cover.{Bordered}
 use Rattle.grid.proofs.RectangleLaws.{rect, found-first}
 use Rattle.grid.proofs.SkylineLaws.{Corner as LowestColumn, corner, raise-before, raise-inside, raise-after, next-found}
 use Rattle.grid.proofs.TraceLaws.{trace-done, trace-stuck, trace-full, trace-next}
-use Rattle.search.specs.Search.{foundRect}
-use Rattle.skyline.specs.Skylines.{Sky, skyOf}
-use Rattle.rects.specs.Placing.{withRect}
-use Rattle.rects.proofs.PlacingLaws.{with-rect}
+use Rattle.trace.specs.Search.{foundRect}
+use Rattle.trace.specs.Skylines.{Sky, skyOf}
+use Rattle.trace.specs.Placing.{withRect}
+use Rattle.trace.proofs.PlacingLaws.{with-rect}
 use Rattle.trace.specs.Tracing.{Lowest}
-use Rattle.search.specs.declared.Found.{Found}
-use Rattle.search.specs.declared.Found.the-variants.{At, Nothing}
-use Rattle.skyline.specs.declared.Skyline.{Skyline}
-use Rattle.skyline.specs.declared.Corner.{Corner}
-use Rattle.skyline.proofs.SkyLaws.{sky-length}
+use Rattle.trace.specs.declared.search.Found.{Found}
+use Rattle.trace.specs.declared.search.Found.the-variants.{At, Nothing}
+use Rattle.trace.specs.declared.skyline.Skyline.{Skyline}
+use Rattle.trace.specs.declared.skyline.Corner.{Corner}
+use Rattle.trace.proofs.SkyLaws.{sky-length}
 
 -- ---- rectangles before what is traced later
 

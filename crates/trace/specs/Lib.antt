@@ -1,1 +1,5 @@
 pub mod Tracing
+pub mod Placing
+pub mod Search
+pub mod Skylines
+pub mod Count

@@ -3,12 +3,12 @@ use Prim.Native.Nat.{ℕ, _-_}
 use mathlib.Core.Path.{_≡_}
 use mathlib.Core.List.{List}
 use Rattle.grid.specs.Trace.{Traced, covered, stopped, lowest, leftmost}
-use Rattle.grid.specs.Arrays.{rectsOf}
+use Rattle.representation.specs.Arrays.{rectsOf}
 use Rattle.trace.specs.declared.Traced as tracing
 use Rattle.trace.specs.declared.Traced.the-variants.{Covered, Stopped}
-use Rattle.skyline.specs.Skylines.{Sky, skyOf}
-use Rattle.skyline.specs.declared.Skyline.{Skyline}
-use Rattle.skyline.specs.declared.Corner.{Corner}
+use Rattle.trace.specs.Skylines.{Sky, skyOf}
+use Rattle.trace.specs.declared.skyline.Skyline.{Skyline}
+use Rattle.trace.specs.declared.skyline.Corner.{Corner}
 
 -- the skyline of a grid this wide, and its leftmost lowest column
 pub record Lowest (width : ℕ) (s : Skyline) (c : Corner) : Type 0 where

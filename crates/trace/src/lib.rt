@@ -1,19 +1,24 @@
 // Tracing: the next corner's first bordered rectangle, until the skyline stands on the last line
 // (layout.rs: trace).
-use grid::MAX_CELLS;
-use rects::put_rect;
-use search::Found;
-use search::find_rect;
-use skyline::Corner;
-use skyline::Skyline;
+pub mod count;
+pub mod rects;
+pub mod search;
+pub mod skyline;
+
+use crate::rects::put_rect;
+use crate::search::Found;
+use crate::search::find_rect;
+use crate::skyline::Corner;
+use crate::skyline::Skyline;
+use representation::MAX_CELLS;
 ghost use Prim.Native.Nat.{_≤_, _<_};
 ghost use mathlib.Core.Path.{_≡_};
 ghost use lib.ListN.{length};
 ghost use Rattle.grid.specs.Trace.{nextRect, trace as traceOf};
 ghost use Rattle.grid.specs.LayoutCall.{rectSpace};
-ghost use Rattle.grid.specs.Arrays.{arrayGrid};
-ghost use Rattle.search.specs.Search.{Ready, foundRect};
-ghost use Rattle.skyline.specs.Skylines.{skyOf};
+ghost use Rattle.representation.specs.Arrays.{arrayGrid};
+ghost use Rattle.trace.specs.Search.{Ready, foundRect};
+ghost use Rattle.trace.specs.Skylines.{skyOf};
 ghost use Rattle.trace.specs.Tracing.{Lowest, tracedOf, countOf};
 
 // How many rectangles cover the grid, or the refusal that tracing meets.

@@ -1,7 +1,10 @@
 // UTF-8, for the characters of the set: the character at a place of a line.
+pub mod known;
+pub mod line_text;
+
 use characters::in_set;
-use characters::in_set_of_three;
-use characters::in_set_of_two;
+use characters::known::in_set_of_three;
+use characters::known::in_set_of_two;
 use characters::within;
 use text::ByteAt;
 use text::Decoded;

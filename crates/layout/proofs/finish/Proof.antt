@@ -2,7 +2,8 @@
 -- Assumes nothing.
 use borrow.Author.Needs.{needs}
 use denote.Ref.{now}
-use Rattle.reading.proofs.SheetLaws.{some-line, head-line}
+use Rattle.reading.proofs.SheetLaws.{some-line}
+use Rattle.layout.proofs.FoundLaws.{head-line}
 use Rattle.layout.specs.Call.{arrays}
 use Rattle.layout.proofs.FinishNeeds.{measurable, refused, writable, written}
 use Rattle.layout.proofs.finish.Statement.{statement}

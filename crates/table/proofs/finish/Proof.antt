@@ -4,7 +4,8 @@ use mathlib.Core.Path.{sym, _∙_}
 use mathlib.Core.List.{[]}
 use borrow.Author.Needs.{needs}
 use denote.Ref.{now}
-use Rattle.reading.proofs.SheetLaws.{entries-small, cells-room, down-some, across-some}
+use Rattle.reading.proofs.SheetLaws.{entries-small, cells-room}
+use Rattle.layout.proofs.FoundLaws.{down-some, across-some}
 use Rattle.table.specs.Call.{arrays}
 use Rattle.table.proofs.FinishLaws.{preparable, small, refused, writable, finished}
 use Rattle.table.proofs.finish.Statement.{statement}

@@ -1,0 +1,152 @@
+-- Laws of the cut lines, from where lines start and where borders stand.
+-- Assumes nothing.
+use Prim.Native.Nat.{ℕ, _+_, _-_, _≤_, _<_}
+use mathlib.Core.Path.{_≡_, refl, sym, ap, _∙_}
+use mathlib.Core.Logic.{⊎-elim}
+use mathlib.Core.List.{List, []}
+use native.Mathlib.Nat.{zero-add, eq-or-lt-of-le}
+use native.Mathlib.Omega.{arith}
+use lib.ListN.{length, getD, take, drop, set, length-set, length-take, length-drop}
+use lib.Seq.{take-take, drop-drop, getD-set-same, getD-set-other}
+use mir.Syntax.{w16, w64}
+use mir.Val.{Fits}
+use borrow.Author.Needs.{fits-under}
+use Rattle.seq.specs.Lists.{sum}
+use Rattle.seq.proofs.Gathered.{sum-step, sum-within}
+use Rattle.grid.specs.Values.{Line}
+use Rattle.grid.specs.CutCall.{CutNumbers, cutNumbers}
+use Rattle.grid.specs.Flat.{linesFrom}
+use Rattle.representation.specs.Arrays.{codeAt}
+use Rattle.grid.proofs.SlotLaws.{line-at}
+use Rattle.grid.proofs.CutLaws.{drop-take, cut-column, cut-part}
+use Rattle.fragments.specs.Part.{lineOf, Checked, Pieced}
+use Rattle.fragments.specs.declared.part.Piece.{Piece}
+use Rattle.cell.specs.Text.{source, fragmentBetween, cutBetween, Ready, Cuttable, PieceOf}
+
+-- ---- one line
+module _ (lengths columns text starts offsets : List ℕ) (ready : Ready (source lengths columns text starts offsets)) (left right y : ℕ)
+    (c : Cuttable (source lengths columns text starts offsets) left right y) where
+  -- the line's text, as it is taken from the whole
+  abbrev part : List ℕ
+  part = take (getD starts y 0 + getD lengths y 0 - getD starts y 0) (drop (getD starts y 0) text)
+
+  begins : getD starts y 0 ≡ sum (take y lengths)
+  begins = ready .started y (c .line)
+
+  pub line-inside : getD starts y 0 + getD lengths y 0 ≤ length text
+  line-inside = omega (arith, begins, sum-within lengths y, ready .sheet .bytesAgree)
+
+  pub line-fits : Fits w64 (getD starts y 0 + getD lengths y 0)
+  line-fits = fits-under w64 (getD starts y 0 + getD lengths y 0) 32769 (omega (arith, line-inside, ready .fewBytes)) tt
+
+  part-length : length part ≡ getD lengths y 0
+  part-length =
+      omega (arith, length-take (getD starts y 0 + getD lengths y 0 - getD starts y 0) (drop (getD starts y 0) text), length-drop (getD starts y 0) text, line-inside)
+
+  pub part-checked : Checked part (record { 0 = getD columns y 0 }) (record { 0 = codeAt offsets y left + 1 }) (record { 0 = codeAt offsets y right }) (record { 0 = left })
+  part-checked =
+      record {
+        forward = omega (arith, c .forward);
+        inside = omega (arith, c .inside, part-length);
+        short = omega (arith, ready .sheet .shortLines y, part-length);
+        lowColumn = ready .sheet .nearColumns y;
+        lowLeft = omega (arith, c .leftFits);
+      }
+
+  pub start-fits : Fits w64 (codeAt offsets y left + 1)
+  start-fits = fits-under w64 (codeAt offsets y left + 1) 514 (omega (arith, c .forward, c .inside, ready .sheet .shortLines y)) tt
+
+  -- the line as the definition has it
+  part-line : lineOf part (record { 0 = getD columns y 0 }) ≡ getD (linesFrom lengths columns text) y (record { text = []; column = 0 })
+  part-line =
+      let taken : getD starts y 0 + getD lengths y 0 - getD starts y 0 ≡ getD lengths y 0 = omega arith in
+      rw (taken, begins) (sym (line-at lengths columns text y (record { text = []; column = 0 }) (c .line)))
+
+  module _ (p : Piece)
+      (told : Pieced part (record { 0 = getD columns y 0 }) (record { 0 = codeAt offsets y left + 1 }) (record { 0 = codeAt offsets y right }) (record { 0 = left }) p) where
+    numbers : cutNumbers 0 (fragmentBetween (source lengths columns text starts offsets) left right y)
+        ≡ record { start = p .start .0; end = p .end .0; line = y; byte = p .start .0; column = p .column .0 }
+    numbers = rw zero-add at (rw part-line at (told .numbers y 0))
+
+    pub piece-told : PieceOf (source lengths columns text starts offsets) left right y p
+    unfolding cutNumbers
+    piece-told =
+        let f = fragmentBetween (source lengths columns text starts offsets) left right y in
+        let given = getD (linesFrom lengths columns text) y (record { text = []; column = 0 }) in
+        let column : p .column .0 ≡ f .column = ap (λ (n : CutNumbers). n .column) (sym numbers) in
+        let from : getD columns y 0 ≡ given .column = ap (λ (l : Line). l .column) part-line in
+        record {
+          numbers = numbers;
+          forward = told .within .1;
+          inside = omega (arith, told .within, c .inside);
+          shortEnd = omega (arith, told .within, c .inside, ready .sheet .shortLines y);
+          lowColumn =
+              omega (
+                arith,
+                column,
+                from,
+                cut-column given y 0 (record { start = codeAt offsets y left + 1; end = codeAt offsets y right }) left,
+                ready .sheet .nearColumns y,
+                c .leftFits,
+              );
+        }
+
+  -- the piece as a part of the whole text
+  module _ (p : Piece) (told : PieceOf (source lengths columns text starts offsets) left right y p) where
+    pub piece-inside : getD starts y 0 + p .end .0 ≤ length text
+    piece-inside = omega (arith, told .inside, line-inside)
+
+    pub piece-end-fits : Fits w64 (getD starts y 0 + p .end .0)
+    piece-end-fits = fits-under w64 (getD starts y 0 + p .end .0) 32769 (omega (arith, piece-inside, ready .fewBytes)) tt
+
+    pub piece-start-fits : Fits w64 (getD starts y 0 + p .start .0)
+    piece-start-fits = fits-under w64 (getD starts y 0 + p .start .0) 32769 (omega (arith, piece-inside, told .forward, ready .fewBytes)) tt
+
+    pub piece-cut : take (getD starts y 0 + p .end .0 - (getD starts y 0 + p .start .0)) (drop (getD starts y 0 + p .start .0) text)
+        ≡ cutBetween (source lengths columns text starts offsets) left right y
+    unfolding cutNumbers
+    piece-cut =
+        let f = fragmentBetween (source lengths columns text starts offsets) left right y in
+        let (at, more, n) : ℕ × ℕ × ℕ = (getD starts y 0, getD starts y 0 + getD lengths y 0 - getD starts y 0, length (f .text)) in
+        let first : p .start .0 ≡ f .byte - 0 = ap (λ (n : CutNumbers). n .start) (sym (told .numbers)) in
+        let last : p .end .0 ≡ f .byte - 0 + length (f .text) = ap (λ (n : CutNumbers). n .end) (sym (told .numbers)) in
+        let long : getD starts y 0 + p .end .0 - (getD starts y 0 + p .start .0) ≡ length (f .text) = omega arith in
+        let taken : take n (drop (p .start .0) part) ≡ take n (drop (at + p .start .0) text) =
+        ap (take n) (drop-take (p .start .0) more (drop at text) (omega (arith, told .forward, told .inside)) ∙ ap (take (more - p .start .0)) (drop-drop (p .start .0) at text))
+        ∙ take-take n (more - p .start .0) (drop (at + p .start .0) text) (omega (arith, first, last, told .inside)) in
+        let whole : take n (drop (p .start .0) part) ≡ f .text =
+        rw (first, ap (λ (l : Line). l .text) part-line) (sym (cut-part (getD (linesFrom lengths columns text) y (record { text = []; column = 0 })) y 0 (record { start = codeAt offsets y left + 1; end = codeAt offsets y right }) left)) in
+        rw long (sym taken ∙ whole)
+
+-- ---- where lines start
+pub record Starting (lengths starts₀ : List ℕ) (starts : List ℕ) (at y : ℕ) : Type 0 where
+  pub kept : length starts ≡ length starts₀
+  pub room : length lengths ≤ length starts₀
+  pub small : sum lengths ≤ 32768
+  pub place : at ≡ sum (take y lengths)
+  pub noted : (i : ℕ) → i < y → getD starts i 0 ≡ sum (take i lengths)
+
+pub none-started : (lengths starts₀ : List ℕ) → (length lengths ≤ length starts₀) × (sum lengths ≤ 32768) → Starting lengths starts₀ starts₀ 0 0
+unfolding sum
+none-started lengths starts₀ h = record { kept = refl; room = h .0; small = h .1; place = refl; noted = λ i low. absurd (omega arith) }
+
+module _ (lengths starts₀ starts : List ℕ) (at y : ℕ) (s : Starting lengths starts₀ starts at y) where
+  module _ (h : y < length lengths) where
+    pub start-room : y < length starts
+    start-room = omega (arith, s .kept, s .room)
+
+    pub next-fits : Fits w16 (at + getD lengths y 0)
+    next-fits = fits-under w16 (at + getD lengths y 0) 32769 (omega (arith, s .place, sum-within lengths y, s .small)) tt
+
+    pub one-started : Starting lengths starts₀ (set starts y at) (at + getD lengths y 0) (y + 1)
+    one-started =
+        record {
+          kept = length-set starts y at ∙ s .kept;
+          room = s .room;
+          small = s .small;
+          place = rw (s .place) (sym (sum-step lengths y h));
+          noted = λ i low. ⊎-elim (λ (here : i ≡ y). rw here (getD-set-same starts y at 0 start-room ∙ s .place)) (λ (before : i < y). getD-set-other starts y i at 0 (λ e. omega arith) ∙ s .noted i before) (eq-or-lt-of-le (omega arith));
+        }
+
+  pub all-started : length lengths ≤ y → (i : ℕ) → i < length lengths → getD starts i 0 ≡ sum (take i lengths)
+  all-started h i low = s .noted i (omega arith)

@@ -1,2 +1,0 @@
-mod CellEntryLaws
-mod RangesLaws

@@ -1,3 +1,0 @@
-pub mod WriteLaws
-pub mod AgreeLaws
-pub mod TracedLaws

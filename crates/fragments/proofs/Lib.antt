@@ -1,0 +1,4 @@
+pub mod CallLaws
+pub mod TextLaws
+pub mod FirstLaws
+pub mod PartLaws

@@ -1,3 +1,0 @@
-pub mod ReplaceLaws
-pub mod GlyphLaws
-pub mod PlainLaws

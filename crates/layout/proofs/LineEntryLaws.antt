@@ -1,0 +1,63 @@
+-- Laws of the loops that write the entries of columns and rows.
+-- Assumes nothing.
+use Prim.Native.Nat.{ℕ, suc, _+_, _*_, _-_, _≤_, _<_}
+use mathlib.Core.Path.{_≡_, refl, _∙_}
+use mathlib.Core.List.{List, [], _∷_}
+use native.Mathlib.Omega.{arith}
+use native.Mathlib.Nat.{zero-add}
+use native.Mathlib.Numerals.{add-one}
+use lib.ListN.{length, getD, set}
+use Rattle.seq.proofs.Entries.{Written, none-written, all-written, write-sets}
+use Rattle.grid.specs.Answer.{over}
+use Rattle.grid.specs.Layout.{Between, between}
+use Rattle.representation.specs.declared.Bounds.{Bounds}
+use Rattle.representation.specs.declared.Parts.{Parts}
+use Rattle.representation.specs.Writing.{linesHeld, Rising, alignmentFrom, columnEntries, sectionFrom, rowEntries}
+use Rattle.representation.proofs.WriteLaws.{nobody, length-pairs, pair-at}
+
+-- ---- rows
+pub record RowsWritten (p : Parts) (rows : Bounds) (buffer : List ℕ) (k : ℕ) (out : List ℕ) : Type 0 where
+  pub entries : Written (λ (b : Between). sectionFrom p (b .from) ∷ b .from ∷ b .to ∷ []) (between (linesHeld rows)) 0 buffer k out
+
+pub no-row : (p : Parts) (rows : Bounds) (buffer : List ℕ) → RowsWritten p rows buffer 0 buffer
+no-row p rows buffer = record { entries = none-written (λ (b : Between). sectionFrom p (b .from) ∷ b .from ∷ b .to ∷ []) (between (linesHeld rows)) 0 buffer }
+
+module _ (p : Parts) (rows : Bounds) (buffer out : List ℕ) (k : ℕ) (rising : Rising rows) (w : RowsWritten p rows buffer k out) where
+  pub row-next : (s : ℕ) → k + 1 < rows .count → 3 * (rows .count - 1) ≤ length buffer → s ≡ sectionFrom p (getD (rows .lines) k 0)
+      → RowsWritten p rows buffer (k + 1) (set (set (set out (3 * k) s) (3 * k + 1) (getD (rows .lines) k 0)) (3 * k + 2) (getD (rows .lines) (k + 1) 0))
+  row-next s h room e =
+      let two : 3 * k + 2 ≡ suc (suc (3 * k)) = omega arith in
+      let step =
+      write-sets (λ (b : Between). sectionFrom p (b .from) ∷ b .from ∷ b .to ∷ []) (between (linesHeld rows)) 0 buffer out k nobody
+      (omega (arith, length-pairs rows k rising)) (w .entries) 3 (λ b. refl) (rw (length-pairs rows k rising) (omega arith)) in
+      record { entries = rw (e, two, add-one (3 * k)) (rw (pair-at rows k rising h, zero-add) at step) }
+
+  pub rows-done : rows .count ≤ k + 1 → out ≡ over (rowEntries p (linesHeld rows)) buffer
+  rows-done h =
+      all-written (λ (b : Between). sectionFrom p (b .from) ∷ b .from ∷ b .to ∷ []) (between (linesHeld rows)) 0 buffer out k
+      (omega (arith, length-pairs rows k rising)) (w .entries) ∙ rw zero-add
+
+-- ---- columns
+pub record ColumnsWritten (glyphs offsets line : List ℕ) (a : ℕ) (columns : Bounds) (buffer : List ℕ) (k : ℕ) (out : List ℕ) : Type 0 where
+  pub entries : Written (λ (b : Between). alignmentFrom glyphs offsets line a (b .from) ∷ (b .to - b .from - 1) ∷ []) (between (linesHeld columns)) 0 buffer k out
+
+module _ (glyphs offsets line : List ℕ) (a : ℕ) (columns : Bounds) (buffer : List ℕ) where
+  abbrev columnEntry : Between → List ℕ
+  columnEntry b = alignmentFrom glyphs offsets line a (b .from) ∷ (b .to - b .from - 1) ∷ []
+
+  pub no-column : ColumnsWritten glyphs offsets line a columns buffer 0 buffer
+  no-column = record { entries = none-written columnEntry (between (linesHeld columns)) 0 buffer }
+
+  module _ (out : List ℕ) (k : ℕ) (rising : Rising columns) (w : ColumnsWritten glyphs offsets line a columns buffer k out) where
+    pub column-next : (s : ℕ) → k + 1 < columns .count → 2 * (columns .count - 1) ≤ length buffer → s ≡ alignmentFrom glyphs offsets line a (getD (columns .lines) k 0)
+        → ColumnsWritten glyphs offsets line a columns buffer (k + 1)
+        (set (set out (2 * k) s) (2 * k + 1) (getD (columns .lines) (k + 1) 0 - getD (columns .lines) k 0 - 1))
+    column-next s h room e =
+        let step =
+        write-sets columnEntry (between (linesHeld columns)) 0 buffer out k nobody (omega (arith, length-pairs columns k rising)) (w .entries) 2 (λ b. refl)
+        (rw (length-pairs columns k rising) (omega arith)) in
+        record { entries = rw (e, add-one (2 * k)) (rw (pair-at columns k rising h, zero-add) at step) }
+
+    pub columns-done : columns .count ≤ k + 1 → out ≡ over (columnEntries glyphs offsets line a (linesHeld columns)) buffer
+    columns-done h =
+        all-written columnEntry (between (linesHeld columns)) 0 buffer out k (omega (arith, length-pairs columns k rising)) (w .entries) ∙ rw zero-add

@@ -1,0 +1,18 @@
+-- `bounds::row_bounds` meets its contract: the lines collected from the marked edges.
+-- Assumes nothing.
+use Rattle.layout.proofs.EdgeLaws.{rows-collected}
+use borrow.Author.Needs.{needs}
+use Rattle.layout.proofs.bounds.row_bounds.Statement.{statement}
+use Rattle.layout.proofs.bounds.row_bounds.Tie as tie
+
+edges-requires : tie.Need-edges-requires
+edges-requires c κs = search needs
+
+collect-requires : tie.Need-collect-requires
+collect-requires c κs = search needs
+
+returns : tie.Need-returns
+returns c = search rows-collected
+
+pub row-bounds-spec : {M : Type 1} → statement M
+row-bounds-spec = tie.close (tie.spec edges-requires collect-requires returns)

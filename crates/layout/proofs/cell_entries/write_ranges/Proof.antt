@@ -1,0 +1,127 @@
+-- `cell_entries::write_ranges` meets its contract. The invariant: the ranges of the first k cells are written, up to entry `at`.
+-- Assumes nothing.
+use Prim.Native.Nat.{_-_, _≤_}
+use mir.Facts.{fits-8-64}
+use Rattle.representation.proofs.WriteLaws.{top-above, top-first, some-height, left-small, bottom-small, right-small}
+use Rattle.layout.proofs.RangesLaws.{AllWritten, no-cell-ranges, rect-small, ranges-fit, entries-fit, place-fits, cell-ranges, all-ranges}
+use native.Mathlib.Omega.{arith}
+use borrow.Author.Needs.{needs}
+use Rattle.layout.proofs.cell_entries.write_ranges.Statement.{statement}
+use Rattle.layout.proofs.cell_entries.write_ranges.Tie as tie
+
+abbrev Inv-loop : tie.InvT-loop
+Inv-loop rects n offsets out₀ k₀ at₀ out k at = (k ≤ n) × AllWritten rects n offsets out₀ k at out
+
+abbrev μ-loop : tie.MeasureT-loop
+μ-loop rects n offsets out₀ k₀ at₀ out k at = n - k
+
+loop-holds : tie.Need-loop-holds Inv-loop μ-loop
+loop-holds c = search (needs, no-cell-ranges)
+
+mul-top : tie.Need-mul-top Inv-loop μ-loop
+mul-top c = omega arith
+
+shared-slice-read-top : tie.Need-shared-slice-read-top Inv-loop μ-loop
+shared-slice-read-top c = omega arith
+
+cast-top : tie.Need-cast-top Inv-loop μ-loop
+cast-top c = fits-8-64 (c .shared-slice-known3 .given _)
+
+mul-bottom : tie.Need-mul-bottom Inv-loop μ-loop
+mul-bottom c = omega arith
+
+add-bottom : tie.Need-add-bottom Inv-loop μ-loop
+add-bottom c = omega arith
+
+shared-slice-read-bottom : tie.Need-shared-slice-read-bottom Inv-loop μ-loop
+shared-slice-read-bottom c = omega arith
+
+cast-bottom : tie.Need-cast-bottom Inv-loop μ-loop
+cast-bottom c = fits-8-64 (c .shared-slice-known4 .given _)
+
+mul-write-ranges-of : tie.Need-mul-write-ranges-of Inv-loop μ-loop
+mul-write-ranges-of c = omega arith
+
+add-write-ranges-of : tie.Need-add-write-ranges-of Inv-loop μ-loop
+add-write-ranges-of c = omega arith
+
+shared-slice-read-write-ranges-of : tie.Need-shared-slice-read-write-ranges-of Inv-loop μ-loop
+shared-slice-read-write-ranges-of c = omega arith
+
+cast-write-ranges-of : tie.Need-cast-write-ranges-of Inv-loop μ-loop
+cast-write-ranges-of c = fits-8-64 (c .shared-slice-known5 .given _)
+
+mul-write-ranges-of-2 : tie.Need-mul-write-ranges-of-2 Inv-loop μ-loop
+mul-write-ranges-of-2 c = omega arith
+
+add-write-ranges-of-2 : tie.Need-add-write-ranges-of-2 Inv-loop μ-loop
+add-write-ranges-of-2 c = omega arith
+
+shared-slice-read-write-ranges-of-2 : tie.Need-shared-slice-read-write-ranges-of-2 Inv-loop μ-loop
+shared-slice-read-write-ranges-of-2 c = omega arith
+
+cast-write-ranges-of-2 : tie.Need-cast-write-ranges-of-2 Inv-loop μ-loop
+cast-write-ranges-of-2 c = fits-8-64 (c .shared-slice-known6 .given _)
+
+write-ranges-of-requires : tie.Need-write-ranges-of-requires Inv-loop μ-loop
+write-ranges-of-requires c κs = ((search top-above, search bottom-small, search left-small, search right-small, search needs), (search ranges-fit, search rect-small))
+
+sub-at : tie.Need-sub-at Inv-loop μ-loop
+sub-at c = search (needs, top-first)
+
+sub-at-2 : tie.Need-sub-at-2 Inv-loop μ-loop
+sub-at-2 c = search (needs, some-height)
+
+mul-at : tie.Need-mul-at Inv-loop μ-loop
+mul-at c = search (needs, entries-fit)
+
+add-at : tie.Need-add-at Inv-loop μ-loop
+add-at c = search (needs, place-fits)
+
+add-k : tie.Need-add-k Inv-loop μ-loop
+add-k c = omega arith
+
+loop-less : tie.Need-loop-less Inv-loop μ-loop
+loop-less c = omega arith
+
+loop-again : tie.Need-loop-again Inv-loop μ-loop
+loop-again c = search (needs, cell-ranges)
+
+same-length : tie.Need-same-length Inv-loop μ-loop
+same-length c = search needs
+
+returns : tie.Need-returns Inv-loop μ-loop
+returns c = search (needs, all-ranges)
+
+pub write-ranges-spec : {M : Type 1} → statement M
+write-ranges-spec =
+    tie.close
+    (tie.spec
+    Inv-loop
+    μ-loop
+    loop-holds
+    mul-top
+    shared-slice-read-top
+    cast-top
+    mul-bottom
+    add-bottom
+    shared-slice-read-bottom
+    cast-bottom
+    mul-write-ranges-of
+    add-write-ranges-of
+    shared-slice-read-write-ranges-of
+    cast-write-ranges-of
+    mul-write-ranges-of-2
+    add-write-ranges-of-2
+    shared-slice-read-write-ranges-of-2
+    cast-write-ranges-of-2
+    write-ranges-of-requires
+    sub-at
+    sub-at-2
+    mul-at
+    add-at
+    add-k
+    loop-less
+    loop-again
+    same-length
+    returns)

@@ -1,0 +1,64 @@
+-- `sections::find_parts` meets its contract: by the number of separators and the last of them.
+-- Assumes nothing.
+use Rattle.layout.proofs.PartLaws.{no-head, no-part, head-found, one-part, foot-found, no-foot}
+use native.Mathlib.Omega.{arith}
+use borrow.Author.Needs.{needs}
+use Rattle.layout.proofs.sections.find_parts.Statement.{statement}
+use Rattle.layout.proofs.sections.find_parts.Tie as tie
+
+returns : tie.Need-returns
+returns c = search (no-head, no-part)
+
+array-read-head : tie.Need-array-read-head
+array-read-head c = search needs
+
+cast-head : tie.Need-cast-head
+cast-head c = search needs
+
+returns-2 : tie.Need-returns-2
+returns-2 c = search (head-found, one-part)
+
+sub-if3 : tie.Need-sub-if3
+sub-if3 c = omega arith
+
+array-read-if3 : tie.Need-array-read-if3
+array-read-if3 c = search needs
+
+cast-if3 : tie.Need-cast-if3
+cast-if3 c = search needs
+
+sub-if3-2 : tie.Need-sub-if3-2
+sub-if3-2 c = omega arith
+
+sub-t15 : tie.Need-sub-t15
+sub-t15 c = omega arith
+
+array-read-t18 : tie.Need-array-read-t18
+array-read-t18 c = search needs
+
+cast-t19 : tie.Need-cast-t19
+cast-t19 c = search needs
+
+returns-3 : tie.Need-returns-3
+returns-3 c = search (head-found, foot-found)
+
+returns-4 : tie.Need-returns-4
+returns-4 c = search (head-found, no-foot)
+
+pub find-parts-spec : {M : Type 1} → statement M
+find-parts-spec =
+    tie.close
+    (tie.spec
+    returns
+    array-read-head
+    cast-head
+    returns-2
+    sub-if3
+    array-read-if3
+    cast-if3
+    sub-if3-2
+    sub-t15
+    array-read-t18
+    cast-t19
+    returns-3
+    returns-4)

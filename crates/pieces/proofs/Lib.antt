@@ -1,4 +1,0 @@
-pub mod PieceLaws
-pub mod MeasureLaws
-pub mod LineLaws
-pub mod TotalLaws

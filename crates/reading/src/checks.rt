@@ -1,0 +1,70 @@
+// Reading's checks 13 and 3, before the slots; the Rust has neither.
+use utf8::line_text::well_formed;
+ghost use mathlib.Core.Path.{_≡_};
+ghost use mathlib.Core.Bool.{not};
+ghost use lib.ListN.{length};
+ghost use lib.Dec.{eqb};
+ghost use Rattle.seq.specs.Lists.{sum, firstAt};
+ghost use Rattle.text.specs.Utf8.{wellFormed};
+ghost use Rattle.grid.specs.Flat.{drawingContradicts, splitText};
+ghost use Rattle.grid.specs.LayoutCall.{drawing};
+ghost use Rattle.reading.specs.Checks.{placeOf};
+
+// The first line at fault, or none.
+pub enum Place {
+    At(usize),
+    Nowhere,
+}
+
+// Do the lengths add up to this number? It is counted down, so that no sum can wrap.
+fn adds_up(lengths: &[u16], bytes: usize) -> bool
+    ensures { λ r. ⌜ r ≡ eqb (sum (now (lengths .entry))) bytes ⌝ }
+{
+    let mut left = bytes;
+    let mut i = 0;
+    while i < lengths.len() {
+        let n = lengths[i] as usize;
+        if left < n {
+            return false;
+        }
+        left -= n;
+        i += 1;
+    }
+    left == 0
+}
+
+// 13, of a drawing.
+pub fn contradicts(
+    lines: usize,
+    bytes: usize,
+    lengths: &[u16],
+    columns: &[u16],
+    text: &[u8],
+) -> bool
+    ensures { λ r.
+        let given = drawing lines bytes (now (lengths .entry)) (now (columns .entry)) (now (text .entry)) in
+        ⌜ r ≡ drawingContradicts given ⌝ }
+{
+    !((lengths.len() == lines)
+        & (columns.len() == lines)
+        & (text.len() == bytes)
+        & adds_up(lengths, bytes))
+}
+
+// 3: the first line that is not UTF-8 or has a character outside the set.
+pub fn first_outside(lengths: &[u16], text: &[u8]) -> Place
+    requires { ⌜ sum (now lengths) ≡ length (now text) ⌝ }
+    ensures { λ r. ⌜ placeOf r ≡ firstAt (λ line. not (wellFormed line)) 0 (splitText (now (lengths .entry)) (now (text .entry))) ⌝ }
+{
+    let mut at = 0;
+    let mut y = 0;
+    while y < lengths.len() {
+        let end = at + lengths[y] as usize;
+        if !well_formed(&text[at..end]) {
+            return Place::At(y);
+        }
+        at = end;
+        y += 1;
+    }
+    Place::Nowhere
+}

@@ -1,0 +1,9 @@
+pub mod RectsLaws
+pub mod ArrayLaws
+pub mod HoldsLaws
+pub mod LayoutPartsLaws
+pub mod TablePartsLaws
+pub mod WriteLaws
+pub mod AgreeLaws
+pub mod TracedLaws
+pub mod EntryLaws

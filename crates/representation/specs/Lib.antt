@@ -1,0 +1,8 @@
+pub mod Sheet
+pub mod Arrays
+pub mod Reach
+pub mod LayoutParts
+pub mod TableParts
+pub mod Edges
+pub mod Writing
+pub mod Entries

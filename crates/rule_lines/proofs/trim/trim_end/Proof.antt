@@ -1,0 +1,68 @@
+-- `trim::trim_end` meets its contract. The invariant: trimming the first n bytes gives what trimming all gives.
+-- Assumes nothing.
+use Prim.Native.Nat.{_≤_}
+use mathlib.Core.Path.{_≡_}
+use borrow.Author.Needs.{needs}
+use lib.ListN.{length, take}
+use lib.Seq.{take-length, length-take-le}
+use Rattle.text.specs.Trim.{trimEnd}
+use Rattle.text.proofs.TrimLaws.{trim-stops, trim-goes-on, trim-leaves-none}
+use Rattle.rule_lines.proofs.trim.trim_end.Statement.{statement}
+use Rattle.rule_lines.proofs.trim.trim_end.Tie as tie
+
+abbrev Inv-loop : tie.InvT-loop
+Inv-loop text n₀ n = (n ≤ length text) × (trimEnd text ≡ trimEnd (take n text))
+
+abbrev μ-loop : tie.MeasureT-loop
+μ-loop text n₀ n = n
+
+loop-holds : tie.Need-loop-holds Inv-loop μ-loop
+loop-holds c = search (needs, take-length)
+
+sub-is-blank : tie.Need-sub-is-blank Inv-loop μ-loop
+sub-is-blank c = search needs
+
+shared-slice-read-is-blank : tie.Need-shared-slice-read-is-blank Inv-loop μ-loop
+shared-slice-read-is-blank c = search needs
+
+is-blank-requires : tie.Need-is-blank-requires Inv-loop μ-loop
+is-blank-requires c κs = search needs
+
+slice-aggregate-result : tie.Need-slice-aggregate-result Inv-loop μ-loop
+slice-aggregate-result c = search length-take-le
+
+returns : tie.Need-returns Inv-loop μ-loop
+returns c = search trim-stops
+
+sub-n : tie.Need-sub-n Inv-loop μ-loop
+sub-n c = search needs
+
+loop-less : tie.Need-loop-less Inv-loop μ-loop
+loop-less c = search needs
+
+loop-again : tie.Need-loop-again Inv-loop μ-loop
+loop-again c = search (needs, trim-goes-on)
+
+slice-aggregate-result-2 : tie.Need-slice-aggregate-result-2 Inv-loop μ-loop
+slice-aggregate-result-2 c = search needs
+
+returns-2 : tie.Need-returns-2 Inv-loop μ-loop
+returns-2 c = search trim-leaves-none
+
+pub trim-end-spec : {M : Type 1} → statement M
+trim-end-spec =
+    tie.close
+    (tie.spec
+    Inv-loop
+    μ-loop
+    loop-holds
+    sub-is-blank
+    shared-slice-read-is-blank
+    is-blank-requires
+    slice-aggregate-result
+    returns
+    sub-n
+    loop-less
+    loop-again
+    slice-aggregate-result-2
+    returns-2)

@@ -1,0 +1,66 @@
+// Writes the entries of a table's rows and cells.
+use layout::cell_entries::write_cell;
+use layout::sections::section;
+use representation::Bounds;
+use representation::Parts;
+ghost use Prim.Native.Nat.{ℕ, _*_, _-_, _≤_};
+ghost use mathlib.Core.Path.{_≡_};
+ghost use mathlib.Core.List.{List·Memᴰ};
+ghost use lib.ListN.{length};
+ghost use Rattle.grid.specs.Answer.{over};
+ghost use Rattle.grid.specs.Values.{Rect};
+ghost use Rattle.representation.specs.Arrays.{rectsOf};
+ghost use Rattle.representation.specs.Writing.{linesHeld, Rising, Numbered};
+ghost use Rattle.cell.specs.Text.{CountedBy};
+ghost use Rattle.representation.specs.Entries.{sectionEntries, tableEntries};
+
+// Each row's section.
+pub fn write_sections(tops: Bounds, parts: Parts, out: &mut [u8])
+    requires { ⌜ Rising tops × (1 ≤ tops .count) × (tops .count - 1 ≤ length (now out)) ⌝ }
+    ensures { λ _. ⌜ now (out .exit) ≡ over (sectionEntries parts (linesHeld tops)) (now (out .entry)) ⌝ }
+{
+    let mut k = 0;
+    while k + 1 < tops.count {
+        let top = tops.lines[k] as usize;
+        out[k] = section(parts, top) as u8;
+        k += 1;
+    }
+}
+
+// Each cell's row, column, colspan, rowspan and number of lines.
+pub fn write_table_cells(
+    rects: &[u8],
+    n: usize,
+    rows: Bounds,
+    columns: Bounds,
+    counts: &[u8],
+    out: &mut [u16],
+)
+    requires { ⌜ (n ≤ 1024) × (4 * n ≤ length (now rects)) × (n ≤ length (now counts)) × (5 * n ≤ length (now out)) ⌝ }
+    requires { ⌜ (length (rows .index) ≡ 128) × (length (columns .index) ≡ 128) ⌝ }
+    requires { ⌜ ((r : Rect) → List·Memᴰ r (rectsOf n (now rects)) → Numbered rows columns r) ⌝ }
+    ensures { λ _.
+        let rs = rectsOf n (now (rects .entry)) in
+        ⌜ ((f : Rect → ℕ) → CountedBy f rs (now (counts .entry))
+        → now (out .exit) ≡ over (tableEntries f (linesHeld rows) (linesHeld columns) rs) (now (out .entry))) ⌝ }
+{
+    let mut k = 0;
+    while k < n {
+        let top = rects[4 * k] as usize;
+        let left = rects[4 * k + 1] as usize;
+        let bottom = rects[4 * k + 2] as usize;
+        let right = rects[4 * k + 3] as usize;
+        let row = rows.index[top];
+        let column = columns.index[left];
+        write_cell(
+            row as u16,
+            column as u16,
+            (columns.index[right] - column) as u16,
+            (rows.index[bottom] - row) as u16,
+            counts[k] as u16,
+            5 * k,
+            out,
+        );
+        k += 1;
+    }
+}

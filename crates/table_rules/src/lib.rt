@@ -1,1 +1,0 @@
-// The entries of a table's rows and cells, as definitions in specs/.

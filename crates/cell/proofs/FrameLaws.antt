@@ -1,5 +1,4 @@
 -- Each inner line of a traced rectangle has its borders, and its cut lines are those of the table read.
--- Assumes nothing.
 use Prim.Native.Nat.{ℕ, suc, _+_, _-_, _≤_, _<_}
 use mathlib.Core.Path.{_≡_, sym, ap, _∙_}
 use mathlib.Core.List.{List, [], map, List·Memᴰ}

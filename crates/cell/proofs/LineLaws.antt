@@ -1,5 +1,4 @@
 -- Laws of a cell's kept lines: they are its first cut lines, up to the last that is not empty.
--- Assumes nothing.
 use Prim.Native.Nat.{_+_, _-_, _≤_}
 use mathlib.Core.Path.{_≡_, _∙_}
 use mathlib.Core.List.{map}

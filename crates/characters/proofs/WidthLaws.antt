@@ -1,5 +1,4 @@
 -- The rows of the table of widths, by what the tests of `width` said.
--- Assumes nothing.
 use Prim.Native.Nat.{ℕ}
 use mathlib.Core.Path.{_≡_, sym, _∙_}
 use mathlib.Core.Bool.{Bool, true, false}

@@ -1,5 +1,4 @@
 -- Laws of the call in numbers: its checks in their order, and what it accepts.
--- Assumes nothing.
 use Prim.Native.Nat.{ℕ, _+_, _≤_}
 use mathlib.Core.Path.{_≡_, sym, _∙_}
 use mathlib.Core.Bool.{Bool, true, false, _||_}

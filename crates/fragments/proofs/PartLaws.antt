@@ -1,5 +1,4 @@
 -- What a trimmed part cut at its first byte is in numbers.
--- Assumes nothing.
 use Prim.Native.Nat.{ℕ, _+_, _-_, _≤_}
 use mathlib.Core.Path.{_≡_}
 use mathlib.Core.List.{List}

@@ -1,5 +1,4 @@
 -- Laws of specs/CellReply.antt: the reply to each case of an answer.
--- Assumes nothing.
 use Prim.Native.Nat.{ℕ}
 use mathlib.Core.Path.{_≡_, ap, _∙_}
 use Rattle.grid.specs.Answer.{Answer}

@@ -1,5 +1,4 @@
 -- The layout call at each of its returns, from what reading leaves.
--- Assumes nothing.
 use Prim.Native.Nat.{ℕ}
 use mathlib.Core.Path.{_≡_, _∙_}
 use mathlib.Core.List.{List}

@@ -1,5 +1,4 @@
 -- What the last part of the layout call asks of its callees, from what filling and tracing left.
--- Assumes nothing.
 use Prim.Native.Nat.{ℕ, _+_, _*_, _-_, _≤_, _<_}
 use mathlib.Core.Path.{_≡_, refl, sym, _∙_}
 use mathlib.Core.Bool.{true, false}

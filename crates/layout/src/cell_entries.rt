@@ -1,16 +1,13 @@
-// The entries of cells and of their ranges.
-use crate::range_entries::write_ranges_of;
+// The entries of cells.
 use representation::Bounds;
-ghost use Prim.Native.Nat.{ℕ, _+_, _*_, _-_, _≤_, _<_};
+ghost use Prim.Native.Nat.{_+_, _*_, _-_, _≤_, _<_};
 ghost use mathlib.Core.Path.{_≡_};
-ghost use mathlib.Core.List.{[], _∷_, _++_, List·Memᴰ, map};
+ghost use mathlib.Core.List.{[], _∷_, _++_, List·Memᴰ};
 ghost use lib.ListN.{length, take, drop};
-ghost use Rattle.seq.specs.Lists.{sum};
 ghost use Rattle.grid.specs.Values.{Rect};
 ghost use Rattle.grid.specs.Answer.{over};
-ghost use Rattle.representation.specs.Arrays.{codeAt, rectsOf};
-ghost use Rattle.grid.specs.LayoutCall.{slotSpace};
-ghost use Rattle.representation.specs.Writing.{linesHeld, cellEntries, allRanges, Inside, Numbered};
+ghost use Rattle.representation.specs.Arrays.{rectsOf};
+ghost use Rattle.representation.specs.Writing.{linesHeld, cellEntries, Numbered};
 
 // One cell's entries, from entry `at` on.
 pub fn write_cell(
@@ -60,47 +57,4 @@ pub fn write_cells(rects: &[u8], n: usize, rows: Bounds, columns: Bounds, out: &
         );
         k += 1;
     }
-}
-
-// The ranges of all cells.
-pub fn write_ranges(rects: &[u8], n: usize, offsets: &[u16], out: &mut [u16])
-    requires { ⌜ (n ≤ 1024) × (4 * n ≤ length (now rects)) × (slotSpace ≤ length (now offsets)) ⌝ }
-    requires { ⌜ ((r : Rect) → List·Memᴰ r (rectsOf n (now rects)) → Inside 128 128 r) ⌝ }
-    requires { let rs = rectsOf n (now rects) in
-        ⌜ ((r : Rect) → List·Memᴰ r rs → (y : ℕ) → r .top < y → y < r .bottom → codeAt (now offsets) y (r .left) < 512) ⌝ }
-    requires { ⌜ length (allRanges (now offsets) (rectsOf n (now rects))) ≤ length (now out) ⌝ }
-    ensures { λ _. ⌜ now (out .exit) ≡ over (allRanges (now (offsets .entry)) (rectsOf n (now (rects .entry)))) (now (out .entry)) ⌝ }
-{
-    let mut k = 0;
-    let mut at = 0;
-    while k < n {
-        let top = rects[4 * k] as usize;
-        let bottom = rects[4 * k + 2] as usize;
-        write_ranges_of(
-            offsets,
-            top,
-            rects[4 * k + 1] as usize,
-            bottom,
-            rects[4 * k + 3] as usize,
-            at,
-            out,
-        );
-        at += 2 * (bottom - top - 1);
-        k += 1;
-    }
-}
-
-// How many ranges the cells have.
-pub fn count_ranges(rects: &[u8], n: usize) -> usize
-    requires { ⌜ (n ≤ 1024) × (4 * n ≤ length (now rects)) ⌝ }
-    requires { ⌜ ((r : Rect) → List·Memᴰ r (rectsOf n (now rects)) → Inside 128 128 r) ⌝ }
-    ensures { λ r. ⌜ r ≡ sum (map (λ (q : Rect). q .bottom - q .top - 1) (rectsOf n (now (rects .entry)))) ⌝ }
-{
-    let mut count = 0;
-    let mut k = 0;
-    while k < n {
-        count += rects[4 * k + 2] as usize - rects[4 * k] as usize - 1;
-        k += 1;
-    }
-    count
 }

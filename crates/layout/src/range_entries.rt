@@ -1,13 +1,15 @@
-// The entries of one cell's ranges, line by line.
+// The entries of ranges, one range for each inner line of each cell.
 use representation::STRIDE;
 ghost use Prim.Native.Nat.{ℕ, _+_, _*_, _-_, _≤_, _<_};
 ghost use mathlib.Core.Path.{_≡_};
-ghost use mathlib.Core.List.{_++_};
+ghost use mathlib.Core.List.{_++_, List·Memᴰ, map};
 ghost use lib.ListN.{length, take, drop};
-ghost use Rattle.representation.specs.Arrays.{codeAt};
+ghost use Rattle.seq.specs.Lists.{sum};
+ghost use Rattle.grid.specs.Answer.{over};
 ghost use Rattle.grid.specs.Values.{Rect};
 ghost use Rattle.grid.specs.LayoutCall.{slotSpace};
-ghost use Rattle.representation.specs.Writing.{rangeEntries};
+ghost use Rattle.representation.specs.Arrays.{codeAt, rectsOf};
+ghost use Rattle.representation.specs.Writing.{rangeEntries, allRanges, Inside};
 
 // The ranges of a cell on its inner lines, from entry `at` on.
 pub fn write_ranges_of(
@@ -35,4 +37,47 @@ pub fn write_ranges_of(
         i += 2;
         y += 1;
     }
+}
+
+// The ranges of all cells.
+pub fn write_ranges(rects: &[u8], n: usize, offsets: &[u16], out: &mut [u16])
+    requires { ⌜ (n ≤ 1024) × (4 * n ≤ length (now rects)) × (slotSpace ≤ length (now offsets)) ⌝ }
+    requires { ⌜ ((r : Rect) → List·Memᴰ r (rectsOf n (now rects)) → Inside 128 128 r) ⌝ }
+    requires { let rs = rectsOf n (now rects) in
+        ⌜ ((r : Rect) → List·Memᴰ r rs → (y : ℕ) → r .top < y → y < r .bottom → codeAt (now offsets) y (r .left) < 512) ⌝ }
+    requires { ⌜ length (allRanges (now offsets) (rectsOf n (now rects))) ≤ length (now out) ⌝ }
+    ensures { λ _. ⌜ now (out .exit) ≡ over (allRanges (now (offsets .entry)) (rectsOf n (now (rects .entry)))) (now (out .entry)) ⌝ }
+{
+    let mut k = 0;
+    let mut at = 0;
+    while k < n {
+        let top = rects[4 * k] as usize;
+        let bottom = rects[4 * k + 2] as usize;
+        write_ranges_of(
+            offsets,
+            top,
+            rects[4 * k + 1] as usize,
+            bottom,
+            rects[4 * k + 3] as usize,
+            at,
+            out,
+        );
+        at += 2 * (bottom - top - 1);
+        k += 1;
+    }
+}
+
+// How many ranges the cells have.
+pub fn count_ranges(rects: &[u8], n: usize) -> usize
+    requires { ⌜ (n ≤ 1024) × (4 * n ≤ length (now rects)) ⌝ }
+    requires { ⌜ ((r : Rect) → List·Memᴰ r (rectsOf n (now rects)) → Inside 128 128 r) ⌝ }
+    ensures { λ r. ⌜ r ≡ sum (map (λ (q : Rect). q .bottom - q .top - 1) (rectsOf n (now (rects .entry)))) ⌝ }
+{
+    let mut count = 0;
+    let mut k = 0;
+    while k < n {
+        count += rects[4 * k + 2] as usize - rects[4 * k] as usize - 1;
+        k += 1;
+    }
+    count
 }

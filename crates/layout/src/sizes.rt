@@ -1,7 +1,7 @@
 // The sizes of a layout, with its column and row lines, and whether its arrays are too short.
 use crate::bounds::col_bounds;
 use crate::bounds::row_bounds;
-use crate::cell_entries::count_ranges;
+use crate::range_entries::count_ranges;
 use representation::Bounds;
 ghost use Rattle.layout.specs.Sized.{Measurable, Sized};
 

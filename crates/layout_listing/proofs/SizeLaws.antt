@@ -1,5 +1,4 @@
 -- How large a layout that is read can be: it fits 127 columns and rows, 1,024 cells and 16,384 ranges.
--- Assumes nothing.
 use Prim.Native.Nat.{_*_, _-_, _≤_}
 use mathlib.Core.Path.{_≡_}
 use mathlib.Core.Bool.{false}

@@ -1,5 +1,4 @@
 -- What filling and tracing a drawing give, in the terms of its grid.
--- Assumes nothing.
 use Prim.Native.Nat.{ℕ, _≤_}
 use mathlib.Core.Path.{_≡_, refl, sym, ap, _∙_}
 use mathlib.Core.Bool.{true, false, not}

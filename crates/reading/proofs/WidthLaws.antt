@@ -1,5 +1,4 @@
 -- What a drawing has passed once its width is answered, and what working space that is not short has.
--- Assumes nothing.
 use Prim.Native.Nat.{ℕ, zero, suc, _≤_}
 use mathlib.Core.Path.{_≡_, refl, sym}
 use mathlib.Core.Bool.{false, _||_}

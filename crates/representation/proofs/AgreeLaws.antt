@@ -1,5 +1,4 @@
 -- The entries that the call writes, from the arrays of slots and rectangles, are those of the layout.
--- Assumes nothing.
 use Prim.Native.Nat.{ℕ, _+_, _-_, _<_, _≤_}
 use mathlib.Core.Path.{_≡_, refl, sym, ap, _∙_}
 use mathlib.Core.Bool.{Bool, true, false, cond}

@@ -1,5 +1,4 @@
 -- The entries are those of the table that a drawing reads as.
--- Assumes nothing.
 use Prim.Native.Nat.{ℕ, _≤_}
 use mathlib.Core.Path.{_≡_, sym, ap, _∙_}
 use mathlib.Core.List.{List, map, map-map, flatMap, List·Memᴰ}

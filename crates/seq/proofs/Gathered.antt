@@ -1,5 +1,4 @@
 -- Laws of what a loop over the positions of a list has gathered: a sum, what a test selects, the first position that passes one.
--- Assumes nothing.
 use Prim.Native.Nat.{ℕ, zero, suc, _+_, _≤_, _<_}
 use mathlib.Core.Path.{_≡_, refl, sym, ap, _∙_}
 use mathlib.Core.Bool.{Bool, true, false, cond}

@@ -1,5 +1,4 @@
 -- Lists that are the same up to order: one element taken out, lengths, tests and membership.
--- Assumes nothing.
 use Prim.Native.Nat.{suc}
 use mathlib.Core.Path.{_≡_, refl, ap, _∙_}
 use mathlib.Core.Bool.{Bool}

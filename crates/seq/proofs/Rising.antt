@@ -1,5 +1,4 @@
 -- Laws of lists of numbers that rise, and of a number's position in one: how many are less than it.
--- Assumes nothing.
 use Prim.Native.Nat.{ℕ, zero, suc, _+_, _≤_, _<_}
 use mathlib.Core.Path.{_≡_, refl, sym, ap, _∙_}
 use mathlib.Core.Bool.{Bool, true, false}

@@ -1,5 +1,4 @@
 -- Laws of the smallest of a list.
--- Assumes nothing.
 use Prim.Native.Nat.{ℕ, _≤_, _<_}
 use mathlib.Core.Path.{refl}
 use mathlib.Core.Logic.{⊎-elim}

@@ -1,5 +1,4 @@
 -- Laws of tests: what a passed `&&` or `||` tells, and a test as the number 0 or 1.
--- Assumes nothing.
 use Prim.Native.Nat.{ℕ, _≤_, _<_}
 use mathlib.Core.Path.{_≡_, refl, sym}
 use mathlib.Core.Bool.{Bool, true, false, _&&_, _||_}

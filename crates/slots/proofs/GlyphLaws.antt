@@ -1,5 +1,4 @@
 -- Laws of a character's glyph, in the order of the code's tests.
--- Assumes nothing.
 use Prim.Native.Nat.{ℕ}
 use mathlib.Core.Path.{_≡_}
 use mathlib.Core.Bool.{Bool, true, false, _||_}

@@ -1,5 +1,4 @@
 -- Laws of specs/Reaching.antt: how far places of a line reach, from its last place to its first.
--- Assumes nothing.
 use Prim.Native.Nat.{ℕ, _+_, _≤_, _<_}
 use mathlib.Core.Path.{_≡_}
 use mathlib.Core.Bool.{Bool, true}

@@ -1,5 +1,4 @@
 -- The arrays, the sizes and 12 of the table of a traced drawing.
--- Assumes nothing.
 use Prim.Native.Nat.{ℕ, _*_, _-_}
 use mathlib.Core.Path.{_≡_, refl, sym, ap, _∙_}
 use mathlib.Core.Bool.{_||_}

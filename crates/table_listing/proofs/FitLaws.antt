@@ -1,5 +1,4 @@
 -- How large a table that is read can be: it fits 127 columns and rows, 1,024 cells, 16,384 lines and 32,768 bytes.
--- Assumes nothing.
 use Prim.Native.Nat.{ℕ, _-_, _≤_}
 use mathlib.Core.Path.{_≡_, refl, ap}
 use mathlib.Core.Bool.{false}

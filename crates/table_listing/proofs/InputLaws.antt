@@ -1,5 +1,4 @@
 -- From what splitting an input tells to its cells.
--- Assumes nothing.
 use Prim.Native.Nat.{ℕ, _-_}
 use mathlib.Core.Path.{_≡_}
 use mathlib.Core.Bool.{true}

@@ -1,5 +1,4 @@
 -- From the table call's answer and arrays to the cells that are printed.
--- Assumes nothing.
 use Prim.Native.Nat.{ℕ, _*_, _-_, _≤_}
 use mathlib.Core.Path.{_≡_, refl, ap, _∙_}
 use mathlib.Core.Bool.{false}

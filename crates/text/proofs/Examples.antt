@@ -1,5 +1,4 @@
 -- Computed examples of the definitions, at their edges. Each is settled by computing both sides.
--- Assumes nothing.
 use Prim.Native.Nat.{ℕ}
 use Prim.Native.String.{String}
 use mathlib.Core.Path.{_≡_, refl}

@@ -1,5 +1,4 @@
 -- `cell::cell` meets its contract: 13, a refusal of reading, or the cell finished.
--- Assumes nothing.
 use borrow.Author.Needs.{needs}
 use denote.Ref.{now}
 use Rattle.cell.proofs.CallLaws.{cutting, cell-no-starts, cell-refused, cell-finished}

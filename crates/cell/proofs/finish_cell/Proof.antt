@@ -1,5 +1,4 @@
 -- `cell_answer::finish_cell` meets its contract: 13, 12, or the cut lines written.
--- Assumes nothing.
 use mir.Facts.{fits-8-64}
 use native.Mathlib.Omega.{arith}
 use borrow.Author.Needs.{needs}

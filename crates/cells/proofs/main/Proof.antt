@@ -1,5 +1,4 @@
 -- `cells::main` is safe and ends.
--- Assumes nothing.
 use Rattle.input.proofs.InputLaws.{bytes-read}
 use borrow.Author.Needs.{needs}
 use Rattle.cells.proofs.main.Statement.{statement}

@@ -1,5 +1,4 @@
 -- `characters::in_set` meets its contract: the width decides, unless it is a tab.
--- Assumes nothing.
 use Rattle.text.specs.Characters.{inSet}
 use borrow.Author.Needs.{needs}
 use Rattle.characters.proofs.in_set.Statement.{statement}

@@ -1,5 +1,4 @@
 -- `characters::takes_one` meets its contract: each range is its own call.
--- Assumes nothing.
 use borrow.Author.Needs.{needs}
 use Rattle.characters.proofs.takes_one.Statement.{statement}
 use Rattle.characters.proofs.takes_one.Tie as tie

@@ -1,5 +1,4 @@
 -- `characters::takes_two` meets its contract: each range is its own call.
--- Assumes nothing.
 use borrow.Author.Needs.{needs}
 use Rattle.characters.proofs.takes_two.Statement.{statement}
 use Rattle.characters.proofs.takes_two.Tie as tie

@@ -1,5 +1,4 @@
 -- `characters::width` meets its contract: the tests come in the order of the table's rows.
--- Assumes nothing.
 use Rattle.characters.proofs.WidthLaws.{tested-one, tested-none, tested-two, tested-outside}
 use borrow.Author.Needs.{needs}
 use Rattle.characters.proofs.width.Statement.{statement}

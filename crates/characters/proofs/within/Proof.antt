@@ -1,5 +1,4 @@
 -- `characters::within` meets its contract: the test of the definition, made the other way round.
--- Assumes nothing.
 use Rattle.seq.proofs.ListsLaws.{within-tests}
 use Rattle.characters.proofs.within.Statement.{statement}
 use Rattle.characters.proofs.within.Tie as tie

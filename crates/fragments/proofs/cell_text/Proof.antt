@@ -1,5 +1,4 @@
 -- `fragments::cell_text` meets its contract: the answer's two ends give the text and its place.
--- Assumes nothing.
 use Rattle.fragments.proofs.TextLaws.{part-forward, part-inside, part-cut, part-placed, refused-empty, refused-placed}
 use borrow.Author.Needs.{needs}
 use Rattle.fragments.proofs.cell_text.Statement.{statement}

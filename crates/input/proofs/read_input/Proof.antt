@@ -1,5 +1,4 @@
 -- `input::read_input` meets its contract: what it read lies in the buffer.
--- Assumes nothing.
 use borrow.Author.Needs.{needs}
 use Prim.Native.Nat.{_-_, _≤_}
 use mathlib.Core.Path.{_≡_}

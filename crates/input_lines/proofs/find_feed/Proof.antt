@@ -1,5 +1,4 @@
 -- `input_lines::find_feed` meets its contract. The invariant: the lines from `from` on start with the bytes passed.
--- Assumes nothing.
 use borrow.Author.Needs.{needs}
 use Prim.Native.Nat.{_-_, _≤_}
 use mathlib.Core.Path.{_≡_}

@@ -1,5 +1,4 @@
 -- `input_lines::split_lines` meets its contract. The invariant: the lines up to `at` stand in the arrays.
--- Assumes nothing.
 use borrow.Author.Needs.{needs}
 use Prim.Native.Nat.{_-_}
 use mathlib.Core.Path.{_≡_}

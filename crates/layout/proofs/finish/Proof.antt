@@ -1,5 +1,4 @@
 -- `layout::finish` meets its contract: what filling and tracing left gives each callee what it asks.
--- Assumes nothing.
 use borrow.Author.Needs.{needs}
 use denote.Ref.{now}
 use Rattle.reading.proofs.SheetLaws.{some-line}

@@ -1,5 +1,4 @@
 -- `layout::layout` meets its contract: a refusal of reading, or the layout finished.
--- Assumes nothing.
 use borrow.Author.Needs.{needs}
 use Rattle.layout.proofs.CallLaws.{refused, finished}
 use Rattle.layout.proofs.layout.Statement.{statement}

@@ -1,5 +1,4 @@
 -- `lister::list` meets its contract: each return by what splitting tells.
--- Assumes nothing.
 use Rattle.printing.proofs.PutLaws.{prints-as}
 use Rattle.input_lines.proofs.SheetLaws.{lines-fit, bytes-fit, parts-agree}
 use Rattle.layout_listing.proofs.InputLaws.{large-listed, held-listed}

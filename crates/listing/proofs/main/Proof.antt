@@ -1,5 +1,4 @@
 -- `listing::main` is safe and ends.
--- Assumes nothing.
 use Rattle.input.proofs.InputLaws.{bytes-read}
 use borrow.Author.Needs.{needs}
 use Rattle.listing.proofs.main.Statement.{statement}

@@ -1,5 +1,4 @@
 -- `printing::byte` meets its contract.
--- Assumes nothing.
 use Rattle.printing.proofs.PutLaws.{put-byte}
 use borrow.Author.Needs.{needs}
 use Rattle.printing.proofs.byte.Statement.{statement}

@@ -1,5 +1,4 @@
 -- `printing::cell_line` meets its contract.
--- Assumes nothing.
 use Rattle.printing.proofs.WordLaws.{cell-put}
 use borrow.Author.Needs.{needs}
 use Rattle.printing.proofs.cell_line.Statement.{statement}

@@ -1,5 +1,4 @@
 -- `printing::copy` meets its contract. The invariant: the first i bytes are written.
--- Assumes nothing.
 use borrow.Author.Needs.{needs}
 use Prim.Native.Nat.{_+_, _-_, _≤_}
 use lib.ListN.{length, take}

@@ -1,5 +1,4 @@
 -- `printing::decimal` meets its contract.
--- Assumes nothing.
 use Rattle.printing.proofs.PutLaws.{decimal-put}
 use borrow.Author.Needs.{needs}
 use Rattle.printing.proofs.decimal.Statement.{statement}

@@ -1,5 +1,4 @@
 -- `printing::digits` meets its contract. The invariant: the digits of what is left, onto those that stand from i on, are the number's.
--- Assumes nothing.
 use Rattle.printing.proofs.PutLaws.{set-kept, digits-start, digits-closed, digits-again, digits-none}
 use borrow.Author.Needs.{needs}
 use Prim.Native.Nat.{_≤_}

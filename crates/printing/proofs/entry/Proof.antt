@@ -1,5 +1,4 @@
 -- `printing::entry` meets its contract.
--- Assumes nothing.
 use Rattle.seq.proofs.ListsLaws.{read-past}
 use borrow.Author.Needs.{needs}
 use Rattle.printing.proofs.entry.Statement.{statement}

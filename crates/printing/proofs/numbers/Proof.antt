@@ -1,5 +1,4 @@
 -- `printing::numbers` meets its contract. The invariant: the first i numbers are written.
--- Assumes nothing.
 use borrow.Author.Needs.{needs}
 use Prim.Native.Nat.{_+_, _*_, _-_, _≤_}
 use lib.ListN.{length, take}

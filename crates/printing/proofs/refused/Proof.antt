@@ -1,5 +1,4 @@
 -- `printing::refused` meets its contract.
--- Assumes nothing.
 use Rattle.printing.proofs.WordLaws.{refused-put}
 use borrow.Author.Needs.{needs}
 use Rattle.printing.proofs.refused.Statement.{statement}

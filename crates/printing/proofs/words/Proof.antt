@@ -1,5 +1,4 @@
 -- `printing::words` meets its contract.
--- Assumes nothing.
 use Rattle.printing.proofs.PutLaws.{put-then}
 use borrow.Author.Needs.{needs}
 use Rattle.printing.proofs.words.Statement.{statement}

@@ -1,5 +1,4 @@
 -- `reading::checked` meets its contract: each return by its law.
--- Assumes nothing.
 use Rattle.reading.proofs.CheckedLaws.{contradicted, adds-up, agrees, no-lines, some-length, large, outside, no-rule, too-wide, measured}
 use borrow.Author.Needs.{needs}
 use Rattle.reading.proofs.checked.Statement.{statement}

@@ -1,5 +1,4 @@
 -- `reading::read` meets its contract: each return by its law.
--- Assumes nothing.
 use borrow.Author.Needs.{needs}
 use denote.Ref.{now}
 use Rattle.reading.proofs.ReadingLaws.{without-space, without-width, traceable, traced}

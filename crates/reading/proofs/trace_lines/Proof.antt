@@ -1,5 +1,4 @@
 -- `reading::trace_lines` meets its contract: what the callees ensure, put together.
--- Assumes nothing.
 use borrow.Author.Needs.{needs}
 use Rattle.reading.proofs.ThroughLaws.{unfilled, traced-through}
 use Rattle.reading.proofs.trace_lines.Statement.{statement}

@@ -1,5 +1,4 @@
 -- `reading::trimmed_line` meets its contract. The invariant: the lines before i end at byte `at`.
--- Assumes nothing.
 use Prim.Native.Nat.{_-_, _≤_}
 use mathlib.Core.Path.{_≡_}
 use native.Mathlib.Omega.{arith}

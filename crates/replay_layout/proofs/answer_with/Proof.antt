@@ -1,5 +1,4 @@
 -- `replay_layout::answer_with` is safe and ends.
--- Assumes nothing.
 use Rattle.replaying.proofs.PartLaws.{part-kept}
 use borrow.Author.Needs.{needs}
 use Rattle.replay_layout.proofs.answer_with.Statement.{statement}

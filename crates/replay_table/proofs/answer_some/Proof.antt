@@ -1,5 +1,4 @@
 -- `replay_table::answer_some` is safe and ends.
--- Assumes nothing.
 use borrow.Author.Needs.{needs}
 use Rattle.replay_table.proofs.answer_some.Statement.{statement}
 use Rattle.replay_table.proofs.answer_some.Tie as tie

@@ -1,5 +1,4 @@
 -- `replay_table::answer_with` is safe and ends.
--- Assumes nothing.
 use Prim.Native.Nat.{_-_}
 use Rattle.replaying.proofs.PartLaws.{part-kept}
 use borrow.Author.Needs.{needs}

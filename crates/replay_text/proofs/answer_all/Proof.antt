@@ -1,5 +1,4 @@
 -- `replay_text::answer_all` is safe and ends.
--- Assumes nothing.
 use Prim.Native.Nat.{_-_}
 use borrow.Author.Needs.{needs}
 use lib.ListN.{length}

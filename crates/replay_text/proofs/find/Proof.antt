@@ -1,5 +1,4 @@
 -- `replay_text::find` meets its contract: it stays within the slice.
--- Assumes nothing.
 use Prim.Native.Nat.{_-_, _≤_}
 use borrow.Author.Needs.{needs}
 use lib.ListN.{length}

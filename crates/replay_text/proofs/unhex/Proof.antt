@@ -1,5 +1,4 @@
 -- `replay_text::unhex` meets its contract: it fills no more than there is room for.
--- Assumes nothing.
 use Prim.Native.Nat.{_-_, _≤_}
 use mathlib.Core.Path.{_≡_}
 use borrow.Author.Needs.{needs}

@@ -1,5 +1,4 @@
 -- `replaying::field` meets its contract. The invariant: the field starts in the line.
--- Assumes nothing.
 use borrow.Author.Needs.{needs}
 use Prim.Native.Nat.{_-_, _≤_}
 use lib.ListN.{length}

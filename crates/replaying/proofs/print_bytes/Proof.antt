@@ -1,5 +1,4 @@
 -- `replaying::print_bytes` is safe and ends.
--- Assumes nothing.
 use borrow.Author.Needs.{needs}
 use Prim.Native.Nat.{_-_, _≤_}
 use lib.ListN.{length}

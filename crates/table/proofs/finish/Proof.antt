@@ -1,5 +1,4 @@
 -- `table::finish` meets its contract: what reading left gives each callee what it asks.
--- Assumes nothing.
 use mathlib.Core.Path.{sym, _∙_}
 use mathlib.Core.List.{[]}
 use borrow.Author.Needs.{needs}

@@ -1,5 +1,4 @@
 -- `table::table` meets its contract: 13, a refusal of reading, or the table finished.
--- Assumes nothing.
 use borrow.Author.Needs.{needs}
 use denote.Ref.{now}
 use Rattle.table.proofs.CallLaws.{rooms, refused-space, refused-read, finished-read}

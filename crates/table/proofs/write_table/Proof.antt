@@ -1,5 +1,4 @@
 -- `table::write_table` meets its contract: the parts are found, then the four writers in turn, each on its own arrays.
--- Assumes nothing.
 use borrow.Author.Needs.{needs}
 use Rattle.table.proofs.FinishLaws.{some-height, rows-rising, columns-rising, some-row, some-column, low-columns, cells-writable, text-writable, head-in-lines, head-low, all-written}
 use Rattle.table.proofs.write_table.Statement.{statement}

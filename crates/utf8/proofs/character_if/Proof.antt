@@ -1,5 +1,4 @@
 -- `utf8::character_if` meets its contract: by the test's two outcomes.
--- Assumes nothing.
 use Rattle.text.proofs.Utf8Laws.{character-when}
 use borrow.Author.Needs.{needs}
 use Rattle.utf8.proofs.character_if.Statement.{statement}

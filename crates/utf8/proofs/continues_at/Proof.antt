@@ -1,5 +1,4 @@
 -- `utf8::continues_at` meets its contract: from its calls.
--- Assumes nothing.
 use borrow.Author.Needs.{needs}
 use Rattle.utf8.proofs.continues_at.Statement.{statement}
 use Rattle.utf8.proofs.continues_at.Tie as tie

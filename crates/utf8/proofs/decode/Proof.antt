@@ -1,5 +1,4 @@
 -- `utf8::decode` meets its contract: a place at or past the end has no character; elsewhere the next three bytes decide.
--- Assumes nothing.
 use Rattle.seq.proofs.ListsLaws.{within-low}
 use Rattle.text.proofs.Utf8Laws.{character-past, character-one, character-two, character-three, character-none}
 use borrow.Author.Needs.{needs}

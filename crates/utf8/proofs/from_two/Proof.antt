@@ -1,5 +1,4 @@
 -- `utf8::from_two` meets its contract: a byte that goes on is at least 80, so the difference fits.
--- Assumes nothing.
 use Rattle.seq.proofs.ListsLaws.{within-low}
 use Rattle.text.proofs.Utf8Laws.{from-two-refused, from-two-is}
 use borrow.Author.Needs.{needs}

@@ -1,5 +1,4 @@
 -- `pieces::piece_at` meets its contract: the line is the definition's, and so is its piece.
--- Assumes nothing.
 use borrow.Author.Needs.{needs}
 use mir.Facts.{fits-16-64}
 use Rattle.cell.proofs.PieceLaws.{line-fits, line-inside, start-fits, part-checked, piece-told}

@@ -1,5 +1,4 @@
 -- `pieces::prepare` meets its contract: from its two calls.
--- Assumes nothing.
 use borrow.Author.Needs.{needs}
 use Rattle.cell.proofs.TotalLaws.{measurable, prepared}
 use Rattle.cell.proofs.pieces.prepare.Statement.{statement}

@@ -1,5 +1,4 @@
 -- `characters::known::in_set_of_three` meets its contract: the ranges from 800 on.
--- Assumes nothing.
 use borrow.Author.Needs.{needs}
 use Rattle.text.proofs.CharactersLaws.{set-of-three}
 use Rattle.characters.proofs.known.in_set_of_three.Statement.{statement}

@@ -1,5 +1,4 @@
 -- `characters::known::in_set_of_two` meets its contract: the ranges from 80 to 3040.
--- Assumes nothing.
 use borrow.Author.Needs.{needs}
 use Rattle.text.proofs.CharactersLaws.{set-of-two}
 use Rattle.characters.proofs.known.in_set_of_two.Statement.{statement}

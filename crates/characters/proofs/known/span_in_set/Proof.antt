@@ -1,5 +1,4 @@
 -- `characters::known::span_in_set` meets its contract: the ranges stand in order.
--- Assumes nothing.
 use borrow.Author.Needs.{needs}
 use Rattle.text.proofs.CharactersLaws.{tab-spans, spans-one, spans-none, spans-two}
 use Rattle.characters.proofs.known.span_in_set.Statement.{statement}

@@ -1,5 +1,4 @@
 -- `cut_part::cut_part` meets its contract: from its calls.
--- Assumes nothing.
 use borrow.Author.Needs.{needs}
 use Rattle.fragments.proofs.PartLaws.{pieced}
 use Rattle.fragments.proofs.part.cut_part.Statement.{statement}

@@ -1,5 +1,4 @@
 -- `replies::cut_reply::cut_reply` meets its contract: each case of the answer has its reply.
--- Assumes nothing.
 use Rattle.gridtable.proofs.CutReplyLaws.{cut-reply-accepted, cut-reply-refused}
 use borrow.Author.Needs.{needs}
 use Rattle.gridtable.proofs.cut_reply.cut_reply.Statement.{statement}

@@ -1,5 +1,4 @@
 -- `layout_arrays::write_layout` meets its contract: the four writers in turn, each on its own array.
--- Assumes nothing.
 use borrow.Author.Needs.{needs}
 use Rattle.layout.proofs.arrays.write_layout.Statement.{statement}
 use Rattle.layout.proofs.arrays.write_layout.Tie as tie

@@ -1,5 +1,4 @@
 -- `bounds::col_bounds` meets its contract: the lines collected from the marked edges.
--- Assumes nothing.
 use Rattle.layout.proofs.EdgeLaws.{columns-collected}
 use borrow.Author.Needs.{needs}
 use Rattle.layout.proofs.bounds.col_bounds.Statement.{statement}

@@ -1,5 +1,4 @@
 -- `cell_entries::write_cell` meets its contract: five stores side by side.
--- Assumes nothing.
 use native.Mathlib.Omega.{arith}
 use lib.ListN.{length-set}
 use Rattle.layout.proofs.CellEntryLaws.{cell-stored}

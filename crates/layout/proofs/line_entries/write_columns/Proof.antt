@@ -1,5 +1,4 @@
 -- `line_entries::write_columns` meets its contract. The invariant: the entries of the first k columns are written.
--- Assumes nothing.
 use Prim.Native.Nat.{_+_, _-_, _≤_}
 use native.Mathlib.Omega.{arith}
 use lib.ListN.{length-set}

@@ -1,5 +1,4 @@
 -- `line_entries::write_rows` meets its contract. The invariant: the entries of the first k rows are written.
--- Assumes nothing.
 use Prim.Native.Nat.{_+_, _-_, _≤_}
 use Rattle.layout.proofs.LineEntryLaws.{RowsWritten, no-row, row-next, rows-done}
 use native.Mathlib.Omega.{arith}

@@ -1,5 +1,4 @@
 -- `sections::alignment` meets its contract: from its calls.
--- Assumes nothing.
 use mir.Facts.{fits-16-64}
 use Rattle.layout.proofs.PartLaws.{segment-length, next-fits, no-plus, past-end, alignment-found}
 use native.Mathlib.Omega.{arith}

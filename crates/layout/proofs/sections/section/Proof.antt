@@ -1,5 +1,4 @@
 -- `sections::section` meets its contract: by the row's place.
--- Assumes nothing.
 use Rattle.layout.proofs.PartLaws.{in-head, in-foot, in-body}
 use Rattle.layout.proofs.sections.section.Statement.{statement}
 use Rattle.layout.proofs.sections.section.Tie as tie

@@ -1,5 +1,4 @@
 -- `layout_listing::lines_layout` meets its contract: what the layout call tells.
--- Assumes nothing.
 use Rattle.layout_listing.proofs.ListedLaws.{layout-told}
 use borrow.Author.Needs.{needs}
 use Rattle.layout_listing.proofs.lines.lines_layout.Statement.{statement}

@@ -1,5 +1,4 @@
 -- `layout_listing::list_lines` meets its contract: each return by what the answer tells.
--- Assumes nothing.
 use Rattle.layout_listing.proofs.ListedLaws.{few-told, table-listed, refused-listed}
 use borrow.Author.Needs.{needs}
 use Rattle.layout_listing.proofs.lines.list_lines.Statement.{statement}

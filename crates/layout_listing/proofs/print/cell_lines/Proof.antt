@@ -1,5 +1,4 @@
 -- `layout_printing::cell_lines` meets its contract. The invariant: the first i cells are written.
--- Assumes nothing.
 use borrow.Author.Needs.{needs}
 use Prim.Native.Nat.{_+_, _*_, _-_, _≤_}
 use lib.ListN.{length}

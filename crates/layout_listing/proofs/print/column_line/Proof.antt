@@ -1,5 +1,4 @@
 -- `layout_printing::column_line` meets its contract.
--- Assumes nothing.
 use Rattle.layout_listing.proofs.LineLaws.{column-put}
 use borrow.Author.Needs.{needs}
 use Rattle.layout_listing.proofs.print.column_line.Statement.{statement}

@@ -1,5 +1,4 @@
 -- `layout_printing::column_lines` meets its contract. The invariant: the first i columns are written.
--- Assumes nothing.
 use borrow.Author.Needs.{needs}
 use Prim.Native.Nat.{_+_, _*_, _-_, _≤_}
 use lib.ListN.{length}

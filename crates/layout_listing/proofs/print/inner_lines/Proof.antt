@@ -1,5 +1,4 @@
 -- `layout_printing::inner_lines` meets its contract.
--- Assumes nothing.
 use Rattle.layout_listing.proofs.LineLaws.{inner-told}
 use borrow.Author.Needs.{needs}
 use Rattle.layout_listing.proofs.print.inner_lines.Statement.{statement}

@@ -1,5 +1,4 @@
 -- `layout_printing::letter` meets its contract.
--- Assumes nothing.
 use Rattle.layout_listing.proofs.LineLaws.{letter-put}
 use borrow.Author.Needs.{needs}
 use Rattle.layout_listing.proofs.print.letter.Statement.{statement}

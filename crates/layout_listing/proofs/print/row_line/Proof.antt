@@ -1,5 +1,4 @@
 -- `layout_printing::row_line` meets its contract.
--- Assumes nothing.
 use Rattle.layout_listing.proofs.LineLaws.{row-put}
 use borrow.Author.Needs.{needs}
 use Rattle.layout_listing.proofs.print.row_line.Statement.{statement}

@@ -1,5 +1,4 @@
 -- `layout_printing::section_letter` meets its contract.
--- Assumes nothing.
 use Rattle.layout_listing.proofs.LineLaws.{letter-head, letter-foot, letter-body}
 use Rattle.layout_listing.proofs.print.section_letter.Statement.{statement}
 use Rattle.layout_listing.proofs.print.section_letter.Tie as tie

@@ -1,5 +1,4 @@
 -- `layout_printing::table` meets its contract.
--- Assumes nothing.
 use Rattle.layout_listing.proofs.LineLaws.{table-put}
 use borrow.Author.Needs.{needs}
 use Rattle.layout_listing.proofs.print.table.Statement.{statement}

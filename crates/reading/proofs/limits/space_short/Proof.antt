@@ -1,5 +1,4 @@
 -- `limits::space_short` meets its contract: by computing.
--- Assumes nothing.
 use mathlib.Core.Path.{refl}
 use Rattle.grid.specs.LayoutCall.{spaceShort}
 use Rattle.reading.proofs.limits.space_short.Statement.{statement}

@@ -1,5 +1,4 @@
 -- `limits::too_large` meets its contract: from its calls.
--- Assumes nothing.
 use Rattle.reading.proofs.LimitLaws.{many-lines, other-limits}
 use borrow.Author.Needs.{needs}
 use Rattle.reading.proofs.limits.too_large.Statement.{statement}

@@ -1,5 +1,4 @@
 -- `rule::is_filled` meets its contract. The invariant: the segment is filled where the bytes from i on are.
--- Assumes nothing.
 use Prim.Native.Nat.{_-_, _≤_}
 use mathlib.Core.Path.{_≡_}
 use borrow.Author.Needs.{needs}

@@ -1,5 +1,4 @@
 -- `rule::segment_end` meets its contract. The invariant: no `+` was passed, so what is left to count starts at i.
--- Assumes nothing.
 use Prim.Native.Nat.{_+_, _-_, _≤_}
 use mathlib.Core.Path.{_≡_}
 use borrow.Author.Needs.{needs}

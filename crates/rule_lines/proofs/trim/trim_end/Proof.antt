@@ -1,5 +1,4 @@
 -- `trim::trim_end` meets its contract. The invariant: trimming the first n bytes gives what trimming all gives.
--- Assumes nothing.
 use Prim.Native.Nat.{_≤_}
 use mathlib.Core.Path.{_≡_}
 use borrow.Author.Needs.{needs}

@@ -1,5 +1,4 @@
 -- `slots::fill::fill` meets its contract: the invariant: the lines before y are written, each of the width.
--- Assumes nothing.
 use Prim.Native.Nat.{_-_}
 use borrow.Author.Needs.{needs}
 use lib.ListN.{length}

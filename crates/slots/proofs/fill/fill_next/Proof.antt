@@ -1,5 +1,4 @@
 -- `slots::fill::fill_next` meets its contract: from its four calls.
--- Assumes nothing.
 use borrow.Author.Needs.{needs}
 use Rattle.slots.proofs.NextLaws.{trimmed-short, trimmed-well, next-filled}
 use Rattle.slots.proofs.fill.fill_next.Statement.{statement}

@@ -1,5 +1,4 @@
 -- `slots::fill::is_separator` meets its contract: from its call.
--- Assumes nothing.
 use borrow.Author.Needs.{needs}
 use Rattle.slots.proofs.fill.is_separator.Statement.{statement}
 use Rattle.slots.proofs.fill.is_separator.Tie as tie

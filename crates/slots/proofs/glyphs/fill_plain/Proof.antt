@@ -1,5 +1,4 @@
 -- `glyphs::fill_plain` meets its contract: the invariant: the bytes before i are written.
--- Assumes nothing.
 use Prim.Native.Nat.{_-_}
 use borrow.Author.Needs.{needs}
 use lib.ListN.{length}

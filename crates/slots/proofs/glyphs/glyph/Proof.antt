@@ -1,5 +1,4 @@
 -- `glyphs::glyph` meets its contract: by the code's tests in their order.
--- Assumes nothing.
 use Rattle.slots.proofs.GlyphLaws.{glyph-plus, glyph-dash, glyph-pipe, glyph-other}
 use Rattle.slots.proofs.glyphs.glyph.Statement.{statement}
 use Rattle.slots.proofs.glyphs.glyph.Tie as tie

@@ -1,5 +1,4 @@
 -- `line_slots::fill_decoded` meets its contract: the invariant: the characters before byte are written, in n slots.
--- Assumes nothing.
 use Prim.Native.Nat.{_-_}
 use borrow.Author.Needs.{needs}
 use lib.ListN.{length}

@@ -1,5 +1,4 @@
 -- `reach::reach_from` meets its contract: by the test's two outcomes.
--- Assumes nothing.
 use borrow.Author.Needs.{needs}
 use Rattle.slots.proofs.ReachLaws.{step-on, step-off}
 use Rattle.slots.proofs.reach.reach_from.Statement.{statement}

@@ -1,5 +1,4 @@
 -- `reach::reach_right` meets its contract: the invariant: the lines above y are written.
--- Assumes nothing.
 use Prim.Native.Nat.{_-_}
 use borrow.Author.Needs.{needs}
 use Rattle.slots.proofs.ReachLaws.{RightRows, rows-start, right-room, rows-next, rows-end}

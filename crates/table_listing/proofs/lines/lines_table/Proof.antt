@@ -1,5 +1,4 @@
 -- `table_listing::lines_table` meets its contract: what the table call tells.
--- Assumes nothing.
 use Rattle.table_listing.proofs.ListedLaws.{table-told}
 use borrow.Author.Needs.{needs}
 use Rattle.table_listing.proofs.lines.lines_table.Statement.{statement}

@@ -1,5 +1,4 @@
 -- `table_listing::list_lines` meets its contract: each return by what the answer tells.
--- Assumes nothing.
 use Prim.Native.Nat.{_≤_}
 use Rattle.table_listing.proofs.ListedLaws.{few-told, table-listed, refused-listed, five-fits, parts-small}
 use borrow.Author.Needs.{needs}

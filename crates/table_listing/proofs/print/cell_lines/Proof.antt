@@ -1,5 +1,4 @@
 -- `cell_printing::cell_lines` meets its contract. The invariant: the first i cells are written.
--- Assumes nothing.
 use Prim.Native.Nat.{_-_}
 use Rattle.table_listing.proofs.CellLaws.{turn-less, Cells, cells-none, used-fits, cells-next, cells-all}
 use borrow.Author.Needs.{needs}

@@ -1,5 +1,4 @@
 -- `cell_printing::table_cells` meets its contract.
--- Assumes nothing.
 use Rattle.table_listing.proofs.CellLaws.{table-put}
 use borrow.Author.Needs.{needs}
 use Rattle.table_listing.proofs.print.table_cells.Statement.{statement}

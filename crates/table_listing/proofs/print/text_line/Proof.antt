@@ -1,5 +1,4 @@
 -- `cell_printing::text_line` meets its contract.
--- Assumes nothing.
 use Rattle.table_listing.proofs.TextLaws.{line-put}
 use borrow.Author.Needs.{needs}
 use Rattle.table_listing.proofs.print.text_line.Statement.{statement}

@@ -1,5 +1,4 @@
 -- `cell_printing::text_lines` meets its contract. The invariant: the first i lines are written.
--- Assumes nothing.
 use Prim.Native.Nat.{_-_}
 use lib.ListN.{length}
 use Rattle.table_listing.proofs.TextLaws.{Texts, texts-none, texts-next, texts-all}

@@ -1,5 +1,4 @@
 -- `line_text::is_plain` meets its contract: the invariant: the whole line is plain where the bytes before i and those from i on are.
--- Assumes nothing.
 use Prim.Native.Nat.{_-_, _≤_}
 use mathlib.Core.Path.{_≡_}
 use mathlib.Core.Bool.{_&&_}

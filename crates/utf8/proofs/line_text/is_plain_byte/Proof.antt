@@ -1,5 +1,4 @@
 -- `line_text::is_plain_byte` meets its contract: the test of the definition, made the other way round.
--- Assumes nothing.
 use Rattle.seq.proofs.ListsLaws.{within-tests}
 use Rattle.utf8.proofs.line_text.is_plain_byte.Statement.{statement}
 use Rattle.utf8.proofs.line_text.is_plain_byte.Tie as tie

@@ -1,13 +1,12 @@
 -- `cell_entries::count_ranges` meets its contract. The invariant: the ranges of the first k cells are counted.
--- Assumes nothing.
 use Prim.Native.Nat.{_-_, _≤_}
 use mir.Facts.{fits-8-64}
 use Rattle.representation.proofs.WriteLaws.{top-first, some-height}
 use Rattle.layout.proofs.RangesLaws.{Counted, none-counted, count-fits, count-more, all-counted}
 use native.Mathlib.Omega.{arith}
 use borrow.Author.Needs.{needs}
-use Rattle.layout.proofs.cell_entries.count_ranges.Statement.{statement}
-use Rattle.layout.proofs.cell_entries.count_ranges.Tie as tie
+use Rattle.layout.proofs.range_entries.count_ranges.Statement.{statement}
+use Rattle.layout.proofs.range_entries.count_ranges.Tie as tie
 
 abbrev Inv-loop : tie.InvT-loop
 Inv-loop rects n count₀ k₀ count k = (k ≤ n) × Counted rects n k count

@@ -1,4 +1,4 @@
-// The answer to a call for one cell, from the traced rectangles.
+// The cut lines of one cell of a drawing (mod.rs: build_grid_table).
 pub mod cuts;
 pub mod lines;
 pub mod pieces;

@@ -1,5 +1,6 @@
-// What a layout's arrays hold: its column and row lines, sections, alignments, cells and ranges, as
-// definitions in specs/; in proofs/, that they are those of the layout.
+// The code's own definitions: how its arrays hold slots, rectangles, lines and entries, and an answer
+// in the parts in which the code makes it. In proofs/, that these agree with the rules' definitions.
+// No promise is read here.
 
 // The column (row) lines in order, the first count entries of `lines`; and for each column (line)
 // how many of them come before it.

@@ -20,7 +20,7 @@ use Rattle.representation.specs.TableParts.{cutsAnswerOf, cutsCountOf, cutsArra
 use Rattle.representation.proofs.RectsLaws.{length-rects, getD-rects}
 use Rattle.cell.specs.Text.{source, noRect, Ready, Framed}
 use Rattle.cell.specs.Cuts.{cutsOf}
-use Rattle.cell.proofs.CutsWriteLaws.{length-cuts, length-entries}
+use Rattle.cell.proofs.cuts.WriteLaws.{length-cuts, length-entries}
 use Rattle.cell.specs.Answer.{cellCountOf, cellArrayOf, rectIn, Cutting}
 
 pub rect-held : (rects : List ℕ) (n k : ℕ) → k < n → List·Memᴰ (rectIn rects k) (rectsOf n rects)

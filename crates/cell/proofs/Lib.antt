@@ -1,9 +1,3 @@
 pub mod CellLaws
-pub mod PieceLaws
-pub mod MeasureLaws
-pub mod LineLaws
-pub mod TotalLaws
-pub mod CutsWriteLaws
-pub mod LinesWriteLaws
 pub mod FrameLaws
 pub mod CallLaws

@@ -13,7 +13,7 @@ use Rattle.grid.specs.Flat.{linesFrom, joinText}
 use Rattle.grid.specs.LayoutCall.{slotSpace}
 use Rattle.representation.specs.Arrays.{codeAt, rectsOf}
 use Rattle.representation.specs.Sheet.{Sheet}
-use Rattle.representation.specs.Writing.{Inside}
+use Rattle.representation.specs.LayoutEntries.{Inside}
 use Rattle.fragments.specs.declared.part.Piece.{Piece}
 use Rattle.cell.specs.declared.pieces.TextSize.{TextSize}
 

@@ -1,4 +1,2 @@
 pub mod CallLaws
 pub mod TextLaws
-pub mod FirstLaws
-pub mod PartLaws

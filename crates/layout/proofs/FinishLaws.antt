@@ -12,7 +12,7 @@ use Rattle.grid.specs.Layout.{headEnd, footStart, columnLines, rowLines, innerC
 use Rattle.grid.specs.LayoutCall.{LayoutArrays, layoutArrays, layoutShort, layoutOver}
 use Rattle.representation.specs.LayoutParts.{finishAnswer, finishSizes, finishArrays}
 use Rattle.grid.proofs.SizeLaws.{sizes-agree, short-agrees}
-use Rattle.representation.specs.Writing.{columnEntries, rowEntries, cellEntries, allRanges}
+use Rattle.representation.specs.LayoutEntries.{columnEntries, rowEntries, cellEntries, allRanges}
 use Rattle.representation.specs.declared.Parts.{Parts}
 use Rattle.representation.proofs.AgreeLaws.{Laid, arrays-agree}
 use Rattle.layout.specs.Sized.{tooShort}

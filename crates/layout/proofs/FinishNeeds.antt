@@ -21,7 +21,7 @@ use Rattle.representation.specs.LayoutParts.{finishSizes, finishArrays}
 use Rattle.representation.specs.Arrays.{codeAt, rectsOf}
 use Rattle.representation.proofs.RectsLaws.{length-rects}
 use Rattle.representation.specs.Edges.{rowLinesBelow, columnLinesBelow}
-use Rattle.representation.specs.Writing.{linesHeld, Rising, columnEntries, rowEntries, cellEntries, rangeEntries, allRanges, Numbered}
+use Rattle.representation.specs.LayoutEntries.{linesHeld, Rising, columnEntries, rowEntries, cellEntries, rangeEntries, allRanges, Numbered}
 use Rattle.representation.specs.declared.Parts.{Parts}
 use Rattle.representation.proofs.TracedLaws.{rows-some, columns-some, small-bytes}
 use Rattle.reading.specs.Call.{TracedSheet}

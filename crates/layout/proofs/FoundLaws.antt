@@ -14,7 +14,7 @@ use Rattle.representation.specs.LayoutParts.{gridAnswer}
 use Rattle.representation.specs.Arrays.{rectsOf, Holds}
 use Rattle.slots.specs.Filling.{separatorLines}
 use Rattle.representation.specs.Edges.{Collected, rowLinesBelow, columnLinesBelow}
-use Rattle.representation.specs.Writing.{linesHeld, Rising, Numbered}
+use Rattle.representation.specs.LayoutEntries.{linesHeld, Rising, Numbered}
 use Rattle.representation.specs.declared.Bounds.{Bounds}
 use Rattle.representation.specs.declared.Parts.{Parts}
 use Rattle.representation.proofs.TracedLaws.{laid, tops-held, lefts-held, tops-rise, lefts-rise, tops-some, lefts-some, lefts-small, numbered}

@@ -9,7 +9,7 @@ use Rattle.grid.specs.Values.{Rect}
 use Rattle.grid.specs.Layout.{innerCount}
 use Rattle.representation.specs.Arrays.{rectsOf}
 use Rattle.representation.specs.Edges.{Collected, rowLinesBelow, columnLinesBelow}
-use Rattle.representation.specs.Writing.{Inside}
+use Rattle.representation.specs.LayoutEntries.{Inside}
 use Rattle.layout.specs.declared.sizes.Sizes.{Sizes}
 
 -- n rectangles of a drawing, which lie inside it and have lines

@@ -13,7 +13,7 @@ ghost use Rattle.grid.specs.Answer.{over};
 ghost use Rattle.grid.specs.Values.{Rect};
 ghost use Rattle.grid.specs.LayoutCall.{slotSpace};
 ghost use Rattle.representation.specs.Arrays.{codeAt, rectsOf};
-ghost use Rattle.representation.specs.Writing.{linesHeld, Rising, columnEntries, rowEntries, cellEntries, allRanges, Numbered};
+ghost use Rattle.representation.specs.LayoutEntries.{linesHeld, Rising, columnEntries, rowEntries, cellEntries, allRanges, Numbered};
 
 // Writes the four arrays.
 pub fn write_layout(

@@ -7,7 +7,7 @@ ghost use lib.ListN.{length, take, drop};
 ghost use Rattle.grid.specs.Values.{Rect};
 ghost use Rattle.grid.specs.Answer.{over};
 ghost use Rattle.representation.specs.Arrays.{rectsOf};
-ghost use Rattle.representation.specs.Writing.{linesHeld, cellEntries, Numbered};
+ghost use Rattle.representation.specs.LayoutEntries.{linesHeld, cellEntries, Numbered};
 
 // One cell's entries, from entry `at` on.
 pub fn write_cell(

@@ -9,7 +9,7 @@ ghost use mathlib.Core.List.{List·Memᴰ};
 ghost use lib.ListN.{length};
 ghost use Rattle.grid.specs.Answer.{over};
 ghost use Rattle.grid.specs.LayoutCall.{slotSpace};
-ghost use Rattle.representation.specs.Writing.{linesHeld, Rising, columnEntries, rowEntries};
+ghost use Rattle.representation.specs.LayoutEntries.{linesHeld, Rising, columnEntries, rowEntries};
 
 // Each column's alignment and width.
 pub fn write_columns(

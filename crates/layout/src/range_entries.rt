@@ -9,7 +9,7 @@ ghost use Rattle.grid.specs.Answer.{over};
 ghost use Rattle.grid.specs.Values.{Rect};
 ghost use Rattle.grid.specs.LayoutCall.{slotSpace};
 ghost use Rattle.representation.specs.Arrays.{codeAt, rectsOf};
-ghost use Rattle.representation.specs.Writing.{rangeEntries, allRanges, Inside};
+ghost use Rattle.representation.specs.LayoutEntries.{rangeEntries, allRanges, Inside};
 
 // The ranges of a cell on its inner lines, from entry `at` on.
 pub fn write_ranges_of(

@@ -10,7 +10,7 @@ ghost use Rattle.seq.specs.Lists.{orDefault};
 ghost use Rattle.grid.specs.Layout.{firstOf, lastButOne, segmentAlignment};
 ghost use Rattle.grid.specs.Flat.{alignmentCode};
 ghost use Rattle.grid.specs.LayoutCall.{slotSpace};
-ghost use Rattle.representation.specs.Writing.{alignmentFrom, sectionFrom};
+ghost use Rattle.representation.specs.LayoutEntries.{alignmentFrom, sectionFrom};
 
 // Where Head ends and Foot starts, from the part separators: the first count entries of `lines`.
 pub fn find_parts(lines: [u8; 128], count: usize, height: usize) -> Parts

@@ -1,5 +1,1 @@
 pub mod InputLaws
-pub mod SizeLaws
-pub mod ListedLaws
-pub mod LineLaws
-pub mod TableLaws

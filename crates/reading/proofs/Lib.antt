@@ -3,5 +3,3 @@ pub mod CheckedLaws
 pub mod WidthLaws
 pub mod ReadingLaws
 pub mod SheetLaws
-pub mod LimitLaws
-mod CheckLaws

@@ -1,4 +1,4 @@
--- What a traced drawing's arrays say, and the lines and parts found from them.
+-- What a traced drawing's arrays say: its lines, its grid, and the rectangles, each inside it and laid in its borders.
 use Prim.Native.Nat.{ℕ, zero, suc, _+_, _*_, _-_, _≤_, _<_}
 use mathlib.Core.Path.{_≡_, refl, sym}
 use mathlib.Core.List.{List, [], List·Memᴰ, List·Memᴰ·head, List·Memᴰ·tail}
@@ -15,7 +15,7 @@ use Rattle.representation.specs.LayoutParts.{gridAnswer}
 use Rattle.representation.specs.Arrays.{rectsOf, Holds}
 use Rattle.grid.proofs.SlotLaws.{lines-length, line-at}
 use Rattle.slots.specs.Filling.{separatorLines}
-use Rattle.representation.specs.Writing.{Inside}
+use Rattle.representation.specs.LayoutEntries.{Inside}
 use Rattle.grid.specs.Cover.{Cover}
 use Rattle.representation.proofs.AgreeLaws.{Laid}
 use Rattle.representation.proofs.TracedLaws.{inside, laid, cover}

@@ -19,7 +19,7 @@ use Rattle.grid.specs.LayoutCall.{slotSpace, rectSpace, spaceShort, spaces, dra
 use Rattle.representation.specs.LayoutParts.{widthAnswer}
 use Rattle.grid.proofs.ReadLaws.{passed-if, passed-at}
 use Rattle.reading.specs.Agreement.{Agree, anyOver}
-use Rattle.reading.proofs.LimitLaws.{limits-apart}
+use Rattle.reading.proofs.limits.LimitLaws.{limits-apart}
 use Rattle.representation.specs.Sheet.{Sheet}
 use Rattle.reading.proofs.CheckedLaws.{agrees}
 

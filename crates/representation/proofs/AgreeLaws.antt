@@ -25,7 +25,7 @@ use Rattle.grid.specs.declared.TableAlignment.the-variants.{None}
 use Rattle.grid.specs.declared.GridTableSection.the-variants.{Head, Body, Foot}
 use Rattle.representation.proofs.HoldsLaws.{held-glyph, held-byte}
 use Rattle.representation.specs.declared.Parts.{Parts}
-use Rattle.representation.specs.Writing.{alignmentFrom, columnEntries, sectionFrom, rowEntries, cellEntries, rangeEntries, allRanges, Inside}
+use Rattle.representation.specs.LayoutEntries.{alignmentFrom, columnEntries, sectionFrom, rowEntries, cellEntries, rangeEntries, allRanges, Inside}
 
 -- arrays that hold a grid, and rectangles inside it
 pub record Laid (g : Grid) (rs : List Rect) (glyphs offsets : List ℕ) : Type 0 where

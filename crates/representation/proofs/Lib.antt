@@ -1,9 +1,12 @@
+-- Arrays as lists: rectangles of four entries, a grid of glyphs, the rows of slots.
 pub mod RectsLaws
 pub mod ArrayLaws
 pub mod HoldsLaws
+-- A call's answer is that of its parts in turn.
 pub mod LayoutPartsLaws
 pub mod TablePartsLaws
-pub mod WriteLaws
+-- What is written is the layout, and the table, that the drawing reads as.
+pub mod HeldLaws
 pub mod AgreeLaws
 pub mod TracedLaws
-pub mod EntryLaws
+pub mod TableEntryLaws

@@ -22,7 +22,7 @@ use Rattle.representation.proofs.LayoutPartsLaws.{grid-accepted}
 use Rattle.grid.proofs.SeparatorLaws.{row-filled}
 use Rattle.grid.proofs.SlotLaws.{rows-length}
 use Rattle.representation.specs.Edges.{Collected, rowLinesBelow, columnLinesBelow}
-use Rattle.representation.specs.Writing.{linesHeld, Rising, Inside, Numbered}
+use Rattle.representation.specs.LayoutEntries.{linesHeld, Rising, Inside, Numbered}
 use Rattle.representation.specs.declared.Bounds.{Bounds}
 use Rattle.representation.proofs.AgreeLaws.{Laid}
 

@@ -4,5 +4,5 @@ pub mod Reach
 pub mod LayoutParts
 pub mod TableParts
 pub mod Edges
-pub mod Writing
-pub mod Entries
+pub mod LayoutEntries
+pub mod TableEntries

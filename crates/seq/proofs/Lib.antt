@@ -1,4 +1,6 @@
+-- Computed examples of the definitions.
 mod Examples
+-- Lists, ranges and the element at a position.
 pub mod ListsLaws
 pub mod Tests
 pub mod Ranges
@@ -6,9 +8,11 @@ pub mod Searches
 pub mod Positions
 pub mod Smallest
 pub mod Prefixes
+-- Order: permutations, sorted and rising lists.
 pub mod Permutations
 pub mod Sorted
 pub mod Rising
+-- What loops gather and write: lists end to end, entries of arrays, sums.
 pub mod FlatMaps
 pub mod Gathered
 pub mod Entries

@@ -19,12 +19,12 @@ use Rattle.grid.specs.TableCall.{tableOver}
 use Rattle.representation.specs.TableParts.{tableFrom, tableAnswerOf, tableSizesOf, tableArraysOf}
 use Rattle.representation.proofs.RectsLaws.{length-rects}
 use Rattle.representation.specs.Edges.{Collected, rowLinesBelow, columnLinesBelow}
-use Rattle.representation.specs.Writing.{linesHeld, Rising, Numbered, columnEntries}
+use Rattle.representation.specs.LayoutEntries.{linesHeld, Rising, Numbered, columnEntries}
 use Rattle.representation.specs.declared.Bounds.{Bounds}
 use Rattle.representation.specs.declared.Parts.{Parts}
 use Rattle.cell.specs.Text.{source, keptLines, allLines, Ready, Framed, CountedBy, Preparable, Prepared}
 use Rattle.cell.specs.declared.pieces.TextSize.{TextSize}
-use Rattle.representation.specs.Entries.{sectionEntries, tableEntries}
+use Rattle.representation.specs.TableEntries.{sectionEntries, tableEntries}
 use Rattle.table.specs.Room.{tooShort}
 use Rattle.reading.specs.Call.{TracedSheet}
 use Rattle.reading.specs.declared.Outcome.{Outcome}

@@ -1,5 +1,3 @@
 pub mod TableLaws
 pub mod FinishLaws
 pub mod CallLaws
-pub mod CellsWriteLaws
-pub mod LinesWriteLaws

@@ -16,12 +16,12 @@ use Rattle.representation.specs.Arrays.{rectsOf}
 use Rattle.grid.specs.TableCall.{tableShort}
 use Rattle.representation.specs.TableParts.{tableFrom}
 use Rattle.grid.proofs.SizeLaws.{columns-count, rows-count}
-use Rattle.representation.specs.Writing.{columnEntries}
+use Rattle.representation.specs.LayoutEntries.{columnEntries}
 use Rattle.representation.specs.declared.Parts.{Parts}
 use Rattle.representation.proofs.AgreeLaws.{columns-agree}
 use Rattle.cell.specs.Text.{source, keptLines, allLines}
-use Rattle.representation.specs.Entries.{sectionEntries, tableEntries}
-use Rattle.representation.proofs.EntryLaws.{cellOf, cells-told, sections-told}
+use Rattle.representation.specs.TableEntries.{sectionEntries, tableEntries}
+use Rattle.representation.proofs.TableEntryLaws.{cellOf, cells-told, sections-told}
 use Rattle.reading.specs.Call.{TracedSheet}
 use Rattle.reading.specs.declared.Outcome.{Outcome}
 use Rattle.reading.proofs.SheetLaws.{tall, all-laid}

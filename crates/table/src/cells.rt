@@ -10,9 +10,9 @@ ghost use lib.ListN.{length};
 ghost use Rattle.grid.specs.Answer.{over};
 ghost use Rattle.grid.specs.Values.{Rect};
 ghost use Rattle.representation.specs.Arrays.{rectsOf};
-ghost use Rattle.representation.specs.Writing.{linesHeld, Rising, Numbered};
+ghost use Rattle.representation.specs.LayoutEntries.{linesHeld, Rising, Numbered};
 ghost use Rattle.cell.specs.Text.{CountedBy};
-ghost use Rattle.representation.specs.Entries.{sectionEntries, tableEntries};
+ghost use Rattle.representation.specs.TableEntries.{sectionEntries, tableEntries};
 
 // Each row's section.
 pub fn write_sections(tops: Bounds, parts: Parts, out: &mut [u8])

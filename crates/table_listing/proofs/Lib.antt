@@ -1,5 +1,1 @@
 pub mod InputLaws
-pub mod FitLaws
-pub mod ListedLaws
-pub mod TextLaws
-pub mod CellLaws

@@ -1,8 +1,11 @@
+-- Computed examples of the definitions.
+mod Examples
+-- Laws of the definitions, a file each.
 pub mod CharactersLaws
 pub mod RuleLaws
 pub mod TrimLaws
 pub mod Utf8Laws
+-- Lines of which something is known: UTF-8 of the set, plain, cut where no character is cut.
 pub mod KnownLaws
 pub mod PlainLaws
-mod Examples
 pub mod PartLaws

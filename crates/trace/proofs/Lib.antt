@@ -1,4 +1,1 @@
 mod TracingLaws
-pub mod PlacingLaws
-mod SearchLaws
-pub mod SkyLaws

@@ -24,13 +24,13 @@ use Rattle.grid.proofs.TraceLaws.{trace-done, trace-stuck, trace-full, trace-ne
 use Rattle.trace.specs.Search.{foundRect}
 use Rattle.trace.specs.Skylines.{Sky, skyOf}
 use Rattle.trace.specs.Placing.{withRect}
-use Rattle.trace.proofs.PlacingLaws.{with-rect}
+use Rattle.trace.proofs.rects.PlacingLaws.{with-rect}
 use Rattle.trace.specs.Tracing.{Lowest}
 use Rattle.trace.specs.declared.search.Found.{Found}
 use Rattle.trace.specs.declared.search.Found.the-variants.{At, Nothing}
 use Rattle.trace.specs.declared.skyline.Skyline.{Skyline}
 use Rattle.trace.specs.declared.skyline.Corner.{Corner}
-use Rattle.trace.proofs.SkyLaws.{sky-length}
+use Rattle.trace.proofs.skyline.SkyLaws.{sky-length}
 
 -- ---- rectangles before what is traced later
 

@@ -5,7 +5,7 @@ use native.Mathlib.Omega.{arith}
 use lib.ListN.{length-set}
 use borrow.Author.Needs.{needs}
 use Rattle.cell.specs.Text.{source}
-use Rattle.cell.proofs.CutsWriteLaws.{CutsWritten, no-cut, line-cuttable, line-fits, start-fits, end-fits, column-fits, cut-next, cuts-done}
+use Rattle.cell.proofs.cuts.WriteLaws.{CutsWritten, no-cut, line-cuttable, line-fits, start-fits, end-fits, column-fits, cut-next, cuts-done}
 use Rattle.cell.proofs.cuts.write_cuts.Statement.{statement}
 use Rattle.cell.proofs.cuts.write_cuts.Tie as tie
 

@@ -5,7 +5,7 @@ use native.Mathlib.Omega.{arith}
 use lib.ListN.{length}
 use lib.Seq.{paste, paste-zero}
 use borrow.Author.Needs.{needs}
-use Rattle.cell.proofs.LinesWriteLaws.{copy-more, copied}
+use Rattle.cell.proofs.lines.WriteLaws.{copy-more, copied}
 use Rattle.cell.proofs.lines.copy_to.Statement.{statement}
 use Rattle.cell.proofs.lines.copy_to.Tie as tie
 

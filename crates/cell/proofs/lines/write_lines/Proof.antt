@@ -3,7 +3,7 @@ use Prim.Native.Nat.{_-_, _≤_}
 use native.Mathlib.Omega.{arith}
 use borrow.Author.Needs.{needs}
 use Rattle.cell.specs.Text.{source}
-use Rattle.cell.proofs.LinesWriteLaws.{line-cuttable, first-line-fits, line-fits, length-fits, LinesWritten, no-line, line-room, end-fits, line-next, lines-end, lengths-done, lines-done}
+use Rattle.cell.proofs.lines.WriteLaws.{line-cuttable, first-line-fits, line-fits, length-fits, LinesWritten, no-line, line-room, end-fits, line-next, lines-end, lengths-done, lines-done}
 use Rattle.cell.proofs.lines.write_lines.Statement.{statement}
 use Rattle.cell.proofs.lines.write_lines.Tie as tie
 

@@ -3,7 +3,7 @@ use Prim.Native.Nat.{_-_, _≤_}
 use lib.ListN.{length}
 use native.Mathlib.Omega.{arith}
 use borrow.Author.Needs.{needs}
-use Rattle.cell.proofs.PieceLaws.{Starting, none-started, start-room, next-fits, one-started, all-started}
+use Rattle.cell.proofs.pieces.PieceLaws.{Starting, none-started, start-room, next-fits, one-started, all-started}
 use Rattle.cell.proofs.pieces.line_starts.Statement.{statement}
 use Rattle.cell.proofs.pieces.line_starts.Tie as tie
 

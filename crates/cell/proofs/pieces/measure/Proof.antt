@@ -3,7 +3,7 @@ use Prim.Native.Nat.{_-_, _≤_}
 use mir.Facts.{fits-8-64}
 use native.Mathlib.Omega.{arith}
 use borrow.Author.Needs.{needs}
-use Rattle.cell.proofs.TotalLaws.{Totalling, none-totalled, cell-framed, count-room, lines-fit, bytes-fit, one-totalled, all-totalled}
+use Rattle.cell.proofs.pieces.TotalLaws.{Totalling, none-totalled, cell-framed, count-room, lines-fit, bytes-fit, one-totalled, all-totalled}
 use Rattle.cell.proofs.pieces.measure.Statement.{statement}
 use Rattle.cell.proofs.pieces.measure.Tie as tie
 

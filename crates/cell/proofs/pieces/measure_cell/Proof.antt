@@ -3,7 +3,7 @@ use Prim.Native.Nat.{_-_, _≤_, _<_}
 use mathlib.Core.Logic.{⊎-elim}
 use native.Mathlib.Omega.{arith}
 use borrow.Author.Needs.{needs}
-use Rattle.cell.proofs.MeasureLaws.{Measuring, none-measured, line-cuttable, bytes-fit, empty-measured, filled-measured, all-measured}
+use Rattle.cell.proofs.pieces.MeasureLaws.{Measuring, none-measured, line-cuttable, bytes-fit, empty-measured, filled-measured, all-measured}
 use Rattle.cell.proofs.pieces.measure_cell.Statement.{statement}
 use Rattle.cell.proofs.pieces.measure_cell.Tie as tie
 

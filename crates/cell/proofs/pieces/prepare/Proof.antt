@@ -1,6 +1,6 @@
 -- `pieces::prepare` meets its contract: from its two calls.
 use borrow.Author.Needs.{needs}
-use Rattle.cell.proofs.TotalLaws.{measurable, prepared}
+use Rattle.cell.proofs.pieces.TotalLaws.{measurable, prepared}
 use Rattle.cell.proofs.pieces.prepare.Statement.{statement}
 use Rattle.cell.proofs.pieces.prepare.Tie as tie
 

@@ -1,5 +1,5 @@
 -- `cut_part::after_first` meets its contract: each return by its law.
-use Rattle.fragments.proofs.FirstLaws.{none-begins, space-begins, other-begins, narrow-tab-begins, wide-tab-begins}
+use Rattle.fragments.proofs.part.FirstLaws.{none-begins, space-begins, other-begins, narrow-tab-begins, wide-tab-begins}
 use borrow.Author.Needs.{needs}
 use Rattle.fragments.proofs.part.after_first.Statement.{statement}
 use Rattle.fragments.proofs.part.after_first.Tie as tie

@@ -1,5 +1,5 @@
 -- `bounds::col_bounds` meets its contract: the lines collected from the marked edges.
-use Rattle.layout.proofs.EdgeLaws.{columns-collected}
+use Rattle.layout.proofs.bounds.EdgeLaws.{columns-collected}
 use borrow.Author.Needs.{needs}
 use Rattle.layout.proofs.bounds.col_bounds.Statement.{statement}
 use Rattle.layout.proofs.bounds.col_bounds.Tie as tie

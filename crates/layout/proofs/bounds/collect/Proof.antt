@@ -2,7 +2,7 @@
 use Prim.Native.Nat.{_-_, _≤_}
 use mathlib.Core.Logic.{⊎-elim}
 use Rattle.representation.specs.Edges.{markedBelow, Collected}
-use Rattle.layout.proofs.EdgeLaws.{none-collected, collect-line, collect-none, all-collected}
+use Rattle.layout.proofs.bounds.EdgeLaws.{none-collected, collect-line, collect-none, all-collected}
 use native.Mathlib.Omega.{arith}
 use borrow.Author.Needs.{needs}
 use Rattle.layout.proofs.bounds.collect.Statement.{statement}

@@ -2,7 +2,7 @@
 use Prim.Native.Nat.{_-_, _≤_}
 use Rattle.representation.specs.Edges.{edgeList, Marks}
 use mir.Facts.{fits-8-64}
-use Rattle.layout.proofs.EdgeLaws.{no-marks, first-small, second-small, mark-more, all-marked}
+use Rattle.layout.proofs.bounds.EdgeLaws.{no-marks, first-small, second-small, mark-more, all-marked}
 use native.Mathlib.Omega.{arith}
 use borrow.Author.Needs.{needs}
 use Rattle.layout.proofs.bounds.edges.Statement.{statement}

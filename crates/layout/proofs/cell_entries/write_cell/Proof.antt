@@ -1,7 +1,7 @@
 -- `cell_entries::write_cell` meets its contract: five stores side by side.
 use native.Mathlib.Omega.{arith}
 use lib.ListN.{length-set}
-use Rattle.layout.proofs.CellEntryLaws.{cell-stored}
+use Rattle.layout.proofs.cell_entries.CellEntryLaws.{cell-stored}
 use borrow.Author.Needs.{needs}
 use Rattle.layout.proofs.cell_entries.write_cell.Statement.{statement}
 use Rattle.layout.proofs.cell_entries.write_cell.Tie as tie

@@ -1,8 +1,8 @@
 -- `cell_entries::write_cells` meets its contract. The invariant: the entries of the first k cells are written.
 use Prim.Native.Nat.{_-_, _≤_}
 use mir.Facts.{fits-sub, fits-8-64}
-use Rattle.representation.proofs.WriteLaws.{top-small, left-small, left-fits, bottom-small, right-small, rows-ordered, columns-ordered}
-use Rattle.layout.proofs.CellEntryLaws.{CellsWritten, no-cell, cell-room, cell-next, cells-done}
+use Rattle.representation.proofs.HeldLaws.{top-small, left-small, left-fits, bottom-small, right-small, rows-ordered, columns-ordered}
+use Rattle.layout.proofs.cell_entries.CellEntryLaws.{CellsWritten, no-cell, cell-room, cell-next, cells-done}
 use native.Mathlib.Omega.{arith}
 use borrow.Author.Needs.{elem-fits-field, needs}
 use Rattle.layout.proofs.cell_entries.write_cells.Statement.{statement}

@@ -2,8 +2,8 @@
 use Prim.Native.Nat.{_+_, _-_, _≤_}
 use native.Mathlib.Omega.{arith}
 use lib.ListN.{length-set}
-use Rattle.representation.proofs.WriteLaws.{lines-ordered, lines-apart, line-small, width-fits}
-use Rattle.layout.proofs.LineEntryLaws.{ColumnsWritten, no-column, column-next, columns-done}
+use Rattle.representation.proofs.HeldLaws.{lines-ordered, lines-apart, line-small, width-fits}
+use Rattle.layout.proofs.line_entries.LineEntryLaws.{ColumnsWritten, no-column, column-next, columns-done}
 use borrow.Author.Needs.{needs}
 use Rattle.layout.proofs.line_entries.write_columns.Statement.{statement}
 use Rattle.layout.proofs.line_entries.write_columns.Tie as tie

@@ -1,6 +1,6 @@
 -- `line_entries::write_rows` meets its contract. The invariant: the entries of the first k rows are written.
 use Prim.Native.Nat.{_+_, _-_, _≤_}
-use Rattle.layout.proofs.LineEntryLaws.{RowsWritten, no-row, row-next, rows-done}
+use Rattle.layout.proofs.line_entries.LineEntryLaws.{RowsWritten, no-row, row-next, rows-done}
 use native.Mathlib.Omega.{arith}
 use lib.ListN.{length-set}
 use borrow.Author.Needs.{needs}

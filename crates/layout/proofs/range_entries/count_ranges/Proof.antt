@@ -1,8 +1,8 @@
 -- `cell_entries::count_ranges` meets its contract. The invariant: the ranges of the first k cells are counted.
 use Prim.Native.Nat.{_-_, _≤_}
 use mir.Facts.{fits-8-64}
-use Rattle.representation.proofs.WriteLaws.{top-first, some-height}
-use Rattle.layout.proofs.RangesLaws.{Counted, none-counted, count-fits, count-more, all-counted}
+use Rattle.representation.proofs.HeldLaws.{top-first, some-height}
+use Rattle.layout.proofs.range_entries.RangesLaws.{Counted, none-counted, count-fits, count-more, all-counted}
 use native.Mathlib.Omega.{arith}
 use borrow.Author.Needs.{needs}
 use Rattle.layout.proofs.range_entries.count_ranges.Statement.{statement}

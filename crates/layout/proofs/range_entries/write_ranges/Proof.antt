@@ -1,8 +1,8 @@
 -- `cell_entries::write_ranges` meets its contract. The invariant: the ranges of the first k cells are written, up to entry `at`.
 use Prim.Native.Nat.{_-_, _≤_}
 use mir.Facts.{fits-8-64}
-use Rattle.representation.proofs.WriteLaws.{top-above, top-first, some-height, left-small, bottom-small, right-small}
-use Rattle.layout.proofs.RangesLaws.{AllWritten, no-cell-ranges, rect-small, ranges-fit, entries-fit, place-fits, cell-ranges, all-ranges}
+use Rattle.representation.proofs.HeldLaws.{top-above, top-first, some-height, left-small, bottom-small, right-small}
+use Rattle.layout.proofs.range_entries.RangesLaws.{AllWritten, no-cell-ranges, rect-small, ranges-fit, entries-fit, place-fits, cell-ranges, all-ranges}
 use native.Mathlib.Omega.{arith}
 use borrow.Author.Needs.{needs}
 use Rattle.layout.proofs.range_entries.write_ranges.Statement.{statement}

@@ -3,7 +3,7 @@ use Prim.Native.Nat.{_+_, _*_, _-_, _≤_, _<_}
 use mathlib.Core.Path.{_≡_}
 use native.Mathlib.Omega.{arith}
 use lib.ListN.{length-set}
-use Rattle.layout.proofs.RangeLaws.{RangesWritten, no-range, range-next, ranges-done, start-fits}
+use Rattle.layout.proofs.range_entries.RangeLaws.{RangesWritten, no-range, range-next, ranges-done, start-fits}
 use borrow.Author.Needs.{needs}
 use Rattle.layout.proofs.range_entries.write_ranges_of.Statement.{statement}
 use Rattle.layout.proofs.range_entries.write_ranges_of.Tie as tie

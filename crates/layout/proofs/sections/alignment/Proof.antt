@@ -1,6 +1,6 @@
 -- `sections::alignment` meets its contract: from its calls.
 use mir.Facts.{fits-16-64}
-use Rattle.layout.proofs.PartLaws.{segment-length, next-fits, no-plus, past-end, alignment-found}
+use Rattle.layout.proofs.sections.PartLaws.{segment-length, next-fits, no-plus, past-end, alignment-found}
 use native.Mathlib.Omega.{arith}
 use borrow.Author.Needs.{needs}
 use Rattle.layout.proofs.sections.alignment.Statement.{statement}

@@ -1,5 +1,5 @@
 -- `sections::segment_alignment` meets its contract: by the first and the last byte.
-use Rattle.layout.proofs.PartLaws.{empty-segment, both-colons, left-colon, right-colon, no-colon}
+use Rattle.layout.proofs.sections.PartLaws.{empty-segment, both-colons, left-colon, right-colon, no-colon}
 use native.Mathlib.Omega.{arith}
 use Rattle.layout.proofs.sections.segment_alignment.Statement.{statement}
 use Rattle.layout.proofs.sections.segment_alignment.Tie as tie

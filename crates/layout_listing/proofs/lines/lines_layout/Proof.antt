@@ -1,5 +1,5 @@
 -- `layout_listing::lines_layout` meets its contract: what the layout call tells.
-use Rattle.layout_listing.proofs.ListedLaws.{layout-told}
+use Rattle.layout_listing.proofs.lines.ListedLaws.{layout-told}
 use borrow.Author.Needs.{needs}
 use Rattle.layout_listing.proofs.lines.lines_layout.Statement.{statement}
 use Rattle.layout_listing.proofs.lines.lines_layout.Tie as tie

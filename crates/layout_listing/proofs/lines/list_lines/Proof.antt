@@ -1,5 +1,5 @@
 -- `layout_listing::list_lines` meets its contract: each return by what the answer tells.
-use Rattle.layout_listing.proofs.ListedLaws.{few-told, table-listed, refused-listed}
+use Rattle.layout_listing.proofs.lines.ListedLaws.{few-told, table-listed, refused-listed}
 use borrow.Author.Needs.{needs}
 use Rattle.layout_listing.proofs.lines.list_lines.Statement.{statement}
 use Rattle.layout_listing.proofs.lines.list_lines.Tie as tie

@@ -4,7 +4,7 @@ use Prim.Native.Nat.{_+_, _*_, _-_, _≤_}
 use lib.ListN.{length}
 use Rattle.printing.specs.Printing.{Put}
 use Rattle.layout_listing.specs.Printing.{cellsPrinted}
-use Rattle.layout_listing.proofs.LineLaws.{cells-none, cells-put, cells-all}
+use Rattle.layout_listing.proofs.print.LineLaws.{cells-none, cells-put, cells-all}
 use Rattle.layout_listing.proofs.print.cell_lines.Statement.{statement}
 use Rattle.layout_listing.proofs.print.cell_lines.Tie as tie
 

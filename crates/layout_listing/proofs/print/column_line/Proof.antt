@@ -1,5 +1,5 @@
 -- `layout_printing::column_line` meets its contract.
-use Rattle.layout_listing.proofs.LineLaws.{column-put}
+use Rattle.layout_listing.proofs.print.LineLaws.{column-put}
 use borrow.Author.Needs.{needs}
 use Rattle.layout_listing.proofs.print.column_line.Statement.{statement}
 use Rattle.layout_listing.proofs.print.column_line.Tie as tie

@@ -5,7 +5,7 @@ use lib.ListN.{length}
 use Rattle.grid.specs.Flat.{columnsOfArray}
 use Rattle.grid.specs.Listing.{numbered, columnLine}
 use Rattle.printing.specs.Printing.{Put}
-use Rattle.layout_listing.proofs.LineLaws.{columns-none, columns-put, columns-all}
+use Rattle.layout_listing.proofs.print.LineLaws.{columns-none, columns-put, columns-all}
 use Rattle.layout_listing.proofs.print.column_lines.Statement.{statement}
 use Rattle.layout_listing.proofs.print.column_lines.Tie as tie
 

@@ -1,5 +1,5 @@
 -- `layout_printing::inner_lines` meets its contract.
-use Rattle.layout_listing.proofs.LineLaws.{inner-told}
+use Rattle.layout_listing.proofs.print.LineLaws.{inner-told}
 use borrow.Author.Needs.{needs}
 use Rattle.layout_listing.proofs.print.inner_lines.Statement.{statement}
 use Rattle.layout_listing.proofs.print.inner_lines.Tie as tie

@@ -1,5 +1,5 @@
 -- `layout_printing::letter` meets its contract.
-use Rattle.layout_listing.proofs.LineLaws.{letter-put}
+use Rattle.layout_listing.proofs.print.LineLaws.{letter-put}
 use borrow.Author.Needs.{needs}
 use Rattle.layout_listing.proofs.print.letter.Statement.{statement}
 use Rattle.layout_listing.proofs.print.letter.Tie as tie

@@ -1,5 +1,5 @@
 -- `layout_printing::row_line` meets its contract.
-use Rattle.layout_listing.proofs.LineLaws.{row-put}
+use Rattle.layout_listing.proofs.print.LineLaws.{row-put}
 use borrow.Author.Needs.{needs}
 use Rattle.layout_listing.proofs.print.row_line.Statement.{statement}
 use Rattle.layout_listing.proofs.print.row_line.Tie as tie

@@ -5,7 +5,7 @@ use lib.ListN.{length}
 use Rattle.grid.specs.Listing.{numbered, rowLine}
 use Rattle.printing.specs.Printing.{Put}
 use Rattle.layout_listing.specs.Printing.{rowsOfArray}
-use Rattle.layout_listing.proofs.LineLaws.{rows-none, rows-put, rows-all}
+use Rattle.layout_listing.proofs.print.LineLaws.{rows-none, rows-put, rows-all}
 use Rattle.layout_listing.proofs.print.row_lines.Statement.{statement}
 use Rattle.layout_listing.proofs.print.row_lines.Tie as tie
 

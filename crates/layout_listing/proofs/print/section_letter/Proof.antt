@@ -1,5 +1,5 @@
 -- `layout_printing::section_letter` meets its contract.
-use Rattle.layout_listing.proofs.LineLaws.{letter-head, letter-foot, letter-body}
+use Rattle.layout_listing.proofs.print.LineLaws.{letter-head, letter-foot, letter-body}
 use Rattle.layout_listing.proofs.print.section_letter.Statement.{statement}
 use Rattle.layout_listing.proofs.print.section_letter.Tie as tie
 

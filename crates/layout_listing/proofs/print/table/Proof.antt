@@ -1,5 +1,5 @@
 -- `layout_printing::table` meets its contract.
-use Rattle.layout_listing.proofs.LineLaws.{table-put}
+use Rattle.layout_listing.proofs.print.LineLaws.{table-put}
 use borrow.Author.Needs.{needs}
 use Rattle.layout_listing.proofs.print.table.Statement.{statement}
 use Rattle.layout_listing.proofs.print.table.Tie as tie

@@ -5,7 +5,7 @@ use mir.Facts.{fits-16-64}
 use lib.Dec.{eqb}
 use lib.ListN.{length, drop}
 use Rattle.seq.specs.Lists.{sum}
-use Rattle.reading.proofs.CheckLaws.{too-long, counts-down, counted-down}
+use Rattle.reading.proofs.checks.CheckLaws.{too-long, counts-down, counted-down}
 use native.Mathlib.Omega.{arith}
 use borrow.Author.Needs.{needs}
 use Rattle.reading.proofs.checks.adds_up.Statement.{statement}

@@ -9,7 +9,7 @@ use Rattle.seq.specs.Lists.{sum, firstAt}
 use Rattle.text.specs.Utf8.{wellFormed}
 use Rattle.grid.specs.Flat.{splitText}
 use Rattle.seq.proofs.Walks.{sum-after}
-use Rattle.reading.proofs.CheckLaws.{line-passed, line-end, outside-here, inside-here, none-outside}
+use Rattle.reading.proofs.checks.CheckLaws.{line-passed, line-end, outside-here, inside-here, none-outside}
 use borrow.Author.Needs.{needs}
 use Rattle.reading.proofs.checks.first_outside.Statement.{statement}
 use Rattle.reading.proofs.checks.first_outside.Tie as tie

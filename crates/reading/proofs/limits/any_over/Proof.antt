@@ -3,7 +3,7 @@ use Prim.Native.Nat.{_-_, _≤_}
 use mathlib.Core.Path.{_≡_}
 use lib.ListN.{length, drop}
 use Rattle.reading.specs.Agreement.{anyOver}
-use Rattle.reading.proofs.LimitLaws.{over-here, not-over-here, none-over}
+use Rattle.reading.proofs.limits.LimitLaws.{over-here, not-over-here, none-over}
 use native.Mathlib.Omega.{arith}
 use borrow.Author.Needs.{needs}
 use Rattle.reading.proofs.limits.any_over.Statement.{statement}

@@ -1,5 +1,5 @@
 -- `limits::too_large` meets its contract: from its calls.
-use Rattle.reading.proofs.LimitLaws.{many-lines, other-limits}
+use Rattle.reading.proofs.limits.LimitLaws.{many-lines, other-limits}
 use borrow.Author.Needs.{needs}
 use Rattle.reading.proofs.limits.too_large.Statement.{statement}
 use Rattle.reading.proofs.limits.too_large.Tie as tie

@@ -2,7 +2,7 @@
 use Prim.Native.Nat.{_-_}
 use borrow.Author.Needs.{needs}
 use lib.ListN.{length}
-use Rattle.slots.proofs.SheetLaws.{SheetSoFar, sheet-starts, short-fits, near-fits, line-inside, line-fits, next-room, sheet-next, sheet-wrong, sheet-done}
+use Rattle.slots.proofs.fill.SheetLaws.{SheetSoFar, sheet-starts, short-fits, near-fits, line-inside, line-fits, next-room, sheet-next, sheet-wrong, sheet-done}
 use Rattle.slots.proofs.fill.fill.Statement.{statement}
 use Rattle.slots.proofs.fill.fill.Tie as tie
 

@@ -1,6 +1,6 @@
 -- `slots::fill::fill_next` meets its contract: from its four calls.
 use borrow.Author.Needs.{needs}
-use Rattle.slots.proofs.NextLaws.{trimmed-short, trimmed-well, next-filled}
+use Rattle.slots.proofs.fill.NextLaws.{trimmed-short, trimmed-well, next-filled}
 use Rattle.slots.proofs.fill.fill_next.Statement.{statement}
 use Rattle.slots.proofs.fill.fill_next.Tie as tie
 

@@ -1,6 +1,6 @@
 -- `slots::fill::noted` meets its contract: by the test's two outcomes.
 use borrow.Author.Needs.{needs}
-use Rattle.slots.proofs.NextLaws.{noted-more, noted-none}
+use Rattle.slots.proofs.fill.NextLaws.{noted-more, noted-none}
 use Rattle.slots.proofs.fill.noted.Statement.{statement}
 use Rattle.slots.proofs.fill.noted.Tie as tie
 

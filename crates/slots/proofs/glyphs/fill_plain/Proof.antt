@@ -2,7 +2,7 @@
 use Prim.Native.Nat.{_-_}
 use borrow.Author.Needs.{needs}
 use lib.ListN.{length}
-use Rattle.slots.proofs.GlyphsPlainLaws.{PlainSoFar, bytes-start, bytes-next, glyphs-end, offsets-end}
+use Rattle.slots.proofs.glyphs.PlainLaws.{PlainSoFar, bytes-start, bytes-next, glyphs-end, offsets-end}
 use Rattle.slots.proofs.glyphs.fill_plain.Statement.{statement}
 use Rattle.slots.proofs.glyphs.fill_plain.Tie as tie
 

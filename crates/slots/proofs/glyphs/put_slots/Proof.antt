@@ -3,7 +3,7 @@ use Prim.Native.Nat.{_-_, _≤_}
 use borrow.Author.Needs.{needs}
 use Rattle.grid.specs.Slots.{glyphOf}
 use Rattle.representation.specs.Arrays.{glyphCode}
-use Rattle.slots.proofs.ReplaceLaws.{PutSoFar, put-starts, put-next, put-next-is, put-ends}
+use Rattle.slots.proofs.glyphs.ReplaceLaws.{PutSoFar, put-starts, put-next, put-next-is, put-ends}
 use Rattle.slots.proofs.glyphs.put_slots.Statement.{statement}
 use Rattle.slots.proofs.glyphs.put_slots.Tie as tie
 

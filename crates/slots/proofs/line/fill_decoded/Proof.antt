@@ -3,7 +3,7 @@ use Prim.Native.Nat.{_-_}
 use borrow.Author.Needs.{needs}
 use lib.ListN.{length}
 use Rattle.text.proofs.Utf8Laws.{character-in-set}
-use Rattle.slots.proofs.LineLaws.{LineSoFar, line-starts, line-done, line-over, line-next, columns-fit, bytes-fit, bytes-left}
+use Rattle.slots.proofs.line.LineLaws.{LineSoFar, line-starts, line-done, line-over, line-next, columns-fit, bytes-fit, bytes-left}
 use Rattle.slots.proofs.line.fill_decoded.Statement.{statement}
 use Rattle.slots.proofs.line.fill_decoded.Tie as tie
 

@@ -2,7 +2,7 @@
 use Prim.Native.Nat.{_-_, _≤_}
 use borrow.Author.Needs.{needs}
 use Rattle.slots.specs.Reaching.{LineDown}
-use Rattle.slots.proofs.ReachLaws.{line-starts, from-room, line-next, line-ends}
+use Rattle.slots.proofs.reach.ReachLaws.{line-starts, from-room, line-next, line-ends}
 use Rattle.slots.proofs.reach.reach_down_line.Statement.{statement}
 use Rattle.slots.proofs.reach.reach_down_line.Tie as tie
 

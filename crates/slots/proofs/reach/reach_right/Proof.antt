@@ -1,7 +1,7 @@
 -- `reach::reach_right` meets its contract: the invariant: the lines above y are written.
 use Prim.Native.Nat.{_-_}
 use borrow.Author.Needs.{needs}
-use Rattle.slots.proofs.ReachLaws.{RightRows, rows-start, right-room, rows-next, rows-end}
+use Rattle.slots.proofs.reach.ReachLaws.{RightRows, rows-start, right-room, rows-next, rows-end}
 use Rattle.slots.proofs.reach.reach_right.Statement.{statement}
 use Rattle.slots.proofs.reach.reach_right.Tie as tie
 

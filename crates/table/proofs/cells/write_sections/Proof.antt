@@ -2,7 +2,7 @@
 use Prim.Native.Nat.{_+_, _-_, _≤_}
 use native.Mathlib.Omega.{arith}
 use borrow.Author.Needs.{needs}
-use Rattle.table.proofs.CellsWriteLaws.{SectionsWritten, no-section, section-fits, section-next, sections-done}
+use Rattle.table.proofs.cells.WriteLaws.{SectionsWritten, no-section, section-fits, section-next, sections-done}
 use Rattle.table.proofs.cells.write_sections.Statement.{statement}
 use Rattle.table.proofs.cells.write_sections.Tie as tie
 

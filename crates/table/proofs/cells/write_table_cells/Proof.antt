@@ -3,8 +3,8 @@ use Prim.Native.Nat.{_-_, _≤_}
 use native.Mathlib.Omega.{arith}
 use mir.Facts.{fits-sub, fits-8-16, fits-8-64}
 use borrow.Author.Needs.{elem-fits-field, needs}
-use Rattle.representation.proofs.WriteLaws.{top-small, left-small, bottom-small, right-small, rows-ordered, columns-ordered}
-use Rattle.table.proofs.CellsWriteLaws.{TableWritten, no-table-cell, table-room, table-next, table-done}
+use Rattle.representation.proofs.HeldLaws.{top-small, left-small, bottom-small, right-small, rows-ordered, columns-ordered}
+use Rattle.table.proofs.cells.WriteLaws.{TableWritten, no-table-cell, table-room, table-next, table-done}
 use Rattle.table.proofs.cells.write_table_cells.Statement.{statement}
 use Rattle.table.proofs.cells.write_table_cells.Tie as tie
 

@@ -4,7 +4,7 @@ use mir.Facts.{fits-8-64}
 use native.Mathlib.Omega.{arith}
 use borrow.Author.Needs.{needs}
 use Rattle.cell.specs.Text.{source}
-use Rattle.table.proofs.LinesWriteLaws.{TextWritten, no-cell-lines, count-inside, cell-cuttable, line-count-fits, cell-line-room, cell-byte-room, cell-lines, all-lengths-written, all-text-written}
+use Rattle.table.proofs.lines.WriteLaws.{TextWritten, no-cell-lines, count-inside, cell-cuttable, line-count-fits, cell-line-room, cell-byte-room, cell-lines, all-lengths-written, all-text-written}
 use Rattle.table.proofs.lines.write_text.Statement.{statement}
 use Rattle.table.proofs.lines.write_text.Tie as tie
 

@@ -1,5 +1,5 @@
 -- `table_listing::lines_table` meets its contract: what the table call tells.
-use Rattle.table_listing.proofs.ListedLaws.{table-told}
+use Rattle.table_listing.proofs.lines.ListedLaws.{table-told}
 use borrow.Author.Needs.{needs}
 use Rattle.table_listing.proofs.lines.lines_table.Statement.{statement}
 use Rattle.table_listing.proofs.lines.lines_table.Tie as tie

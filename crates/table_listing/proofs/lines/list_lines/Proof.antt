@@ -1,6 +1,6 @@
 -- `table_listing::list_lines` meets its contract: each return by what the answer tells.
 use Prim.Native.Nat.{_≤_}
-use Rattle.table_listing.proofs.ListedLaws.{few-told, table-listed, refused-listed, five-fits, parts-small}
+use Rattle.table_listing.proofs.lines.ListedLaws.{few-told, table-listed, refused-listed, five-fits, parts-small}
 use borrow.Author.Needs.{needs}
 use Rattle.table_listing.proofs.lines.list_lines.Statement.{statement}
 use Rattle.table_listing.proofs.lines.list_lines.Tie as tie

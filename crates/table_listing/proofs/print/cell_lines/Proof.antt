@@ -1,6 +1,6 @@
 -- `cell_printing::cell_lines` meets its contract. The invariant: the first i cells are written.
 use Prim.Native.Nat.{_-_}
-use Rattle.table_listing.proofs.CellLaws.{turn-less, Cells, cells-none, used-fits, cells-next, cells-all}
+use Rattle.table_listing.proofs.print.CellLaws.{turn-less, Cells, cells-none, used-fits, cells-next, cells-all}
 use borrow.Author.Needs.{needs}
 use Rattle.table_listing.proofs.print.cell_lines.Statement.{statement}
 use Rattle.table_listing.proofs.print.cell_lines.Tie as tie

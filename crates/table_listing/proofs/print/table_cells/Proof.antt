@@ -1,5 +1,5 @@
 -- `cell_printing::table_cells` meets its contract.
-use Rattle.table_listing.proofs.CellLaws.{table-put}
+use Rattle.table_listing.proofs.print.CellLaws.{table-put}
 use borrow.Author.Needs.{needs}
 use Rattle.table_listing.proofs.print.table_cells.Statement.{statement}
 use Rattle.table_listing.proofs.print.table_cells.Tie as tie

@@ -1,5 +1,5 @@
 -- `cell_printing::text_line` meets its contract.
-use Rattle.table_listing.proofs.TextLaws.{line-put}
+use Rattle.table_listing.proofs.print.TextLaws.{line-put}
 use borrow.Author.Needs.{needs}
 use Rattle.table_listing.proofs.print.text_line.Statement.{statement}
 use Rattle.table_listing.proofs.print.text_line.Tie as tie

@@ -1,7 +1,7 @@
 -- `cell_printing::text_lines` meets its contract. The invariant: the first i lines are written.
 use Prim.Native.Nat.{_-_}
 use lib.ListN.{length}
-use Rattle.table_listing.proofs.TextLaws.{Texts, texts-none, texts-next, texts-all}
+use Rattle.table_listing.proofs.print.TextLaws.{Texts, texts-none, texts-next, texts-all}
 use borrow.Author.Needs.{needs}
 use Rattle.table_listing.proofs.print.text_lines.Statement.{statement}
 use Rattle.table_listing.proofs.print.text_lines.Tie as tie

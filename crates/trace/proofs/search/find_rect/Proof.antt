@@ -4,7 +4,7 @@ use mathlib.Core.Logic.{⊎-elim}
 use native.Mathlib.Omega.{arith}
 use borrow.Author.Needs.{needs}
 use mir.Facts.{fits-8-64}
-use Rattle.trace.proofs.SearchLaws.{Passed, search-starts, column-without-plus, column-too-short, line-without-plus, line-searched, none-found, one-found, no-corner}
+use Rattle.trace.proofs.search.SearchLaws.{Passed, search-starts, column-without-plus, column-too-short, line-without-plus, line-searched, none-found, one-found, no-corner}
 use Rattle.trace.proofs.search.find_rect.Statement.{statement}
 use Rattle.trace.proofs.search.find_rect.Tie as tie
 

@@ -4,7 +4,7 @@ use mathlib.Core.Path.{_≡_}
 use borrow.Author.Needs.{needs}
 use lib.ListN.{getD}
 use Rattle.trace.specs.Skylines.{skyOf}
-use Rattle.trace.proofs.SkyLaws.{first-on, first-here, first-nowhere}
+use Rattle.trace.proofs.skyline.SkyLaws.{first-on, first-here, first-nowhere}
 use Rattle.trace.proofs.skyline.Skyline.first_at.Statement.{statement}
 use Rattle.trace.proofs.skyline.Skyline.first_at.Tie as tie
 

@@ -5,7 +5,7 @@ use borrow.Author.Needs.{needs}
 use Rattle.grid.specs.Trace.{standsLevel}
 use Rattle.grid.proofs.RectangleLaws.{rect}
 use Rattle.trace.specs.Skylines.{skyOf}
-use Rattle.trace.proofs.SkyLaws.{level-on, not-level, all-level}
+use Rattle.trace.proofs.skyline.SkyLaws.{level-on, not-level, all-level}
 use Rattle.trace.proofs.skyline.Skyline.is_level.Statement.{statement}
 use Rattle.trace.proofs.skyline.Skyline.is_level.Tie as tie
 

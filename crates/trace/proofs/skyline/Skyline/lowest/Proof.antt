@@ -7,7 +7,7 @@ use borrow.Author.Needs.{needs}
 use lib.ListN.{take}
 use Rattle.seq.proofs.Prefixes.{smallest-one}
 use Rattle.grid.specs.Trace.{lowest}
-use Rattle.trace.proofs.SkyLaws.{lowest-on, lowest-whole}
+use Rattle.trace.proofs.skyline.SkyLaws.{lowest-on, lowest-whole}
 use Rattle.trace.proofs.skyline.Skyline.lowest.Statement.{statement}
 use Rattle.trace.proofs.skyline.Skyline.lowest.Tie as tie
 

@@ -1,6 +1,6 @@
 -- The next corner at the level, or else the first at the lowest.
 use borrow.Author.Needs.{needs}
-use Rattle.trace.proofs.SkyLaws.{corner-at-level, corner-lowest}
+use Rattle.trace.proofs.skyline.SkyLaws.{corner-at-level, corner-lowest}
 use Rattle.trace.proofs.skyline.Skyline.next_corner.Statement.{statement}
 use Rattle.trace.proofs.skyline.Skyline.next_corner.Tie as tie
 

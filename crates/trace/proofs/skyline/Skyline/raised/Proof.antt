@@ -5,7 +5,7 @@ use borrow.Author.Needs.{needs}
 use Rattle.grid.specs.Trace.{raise}
 use Rattle.grid.proofs.RectangleLaws.{rect}
 use Rattle.trace.specs.Skylines.{Sky, skyOf}
-use Rattle.trace.proofs.SkyLaws.{raise-none, raise-on, raise-whole}
+use Rattle.trace.proofs.skyline.SkyLaws.{raise-none, raise-on, raise-whole}
 use Rattle.trace.proofs.skyline.Skyline.raised.Statement.{statement}
 use Rattle.trace.proofs.skyline.Skyline.raised.Tie as tie
 

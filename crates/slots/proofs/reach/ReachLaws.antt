@@ -15,7 +15,7 @@ use Rattle.grid.specs.Slots.{horizontal, vertical, Plus, Dash, Pipe, Other}
 use Rattle.representation.specs.Arrays.{codeAt, codeGlyph, Roomy}
 use Rattle.representation.specs.Reach.{ReachRight, ReachDown}
 use Rattle.slots.specs.Reaching.{RunsFrom, RightRuns, DownRuns, stepDown, LineRight, LineDown, LineRoom}
-use Rattle.slots.proofs.RunLaws.{runs-none, runs-same, runs-on, runs-off}
+use Rattle.slots.proofs.reach.RunLaws.{runs-none, runs-same, runs-on, runs-off}
 
 -- ---- glyphs as numbers
 pub horizontal-code : (code : ℕ) → eqb code 3 || eqb code 1 ≡ horizontal (codeGlyph code)

@@ -13,8 +13,8 @@ use Rattle.grid.specs.Values.{Rect}
 use Rattle.representation.specs.Arrays.{rectsOf}
 use Rattle.representation.proofs.RectsLaws.{length-rects}
 use Rattle.representation.specs.declared.Bounds.{Bounds}
-use Rattle.representation.specs.Writing.{linesHeld, cellEntry, cellEntries, Numbered}
-use Rattle.representation.proofs.WriteLaws.{AllNumbered, all-numbered, span-next}
+use Rattle.representation.specs.LayoutEntries.{linesHeld, cellEntry, cellEntries, Numbered}
+use Rattle.representation.proofs.HeldLaws.{AllNumbered, all-numbered, span-next}
 
 -- ---- cells
 pub cell-stored : (a b c d e at : ℕ) (out : List ℕ) → at + 5 ≤ length out

@@ -12,10 +12,10 @@ use Rattle.grid.specs.Layout.{Between, between, columnLines, rowLines, headEnd,
 use Rattle.grid.specs.Cut.{tableCell, tableOf}
 use Rattle.grid.specs.Flat.{sectionCode, tableCellNumbers}
 use Rattle.representation.specs.TableParts.{tableFrom}
-use Rattle.representation.specs.Writing.{sectionFrom}
+use Rattle.representation.specs.LayoutEntries.{sectionFrom}
 use Rattle.representation.specs.declared.Parts.{Parts}
 use Rattle.representation.proofs.AgreeLaws.{section-agrees, row-inside}
-use Rattle.representation.specs.Entries.{sectionEntries, tableEntry, tableEntries}
+use Rattle.representation.specs.TableEntries.{sectionEntries, tableEntry, tableEntries}
 
 module _ (lines : List Line) (rs : List Rect) where
   abbrev g : Grid

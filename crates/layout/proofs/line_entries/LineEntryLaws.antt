@@ -11,8 +11,8 @@ use Rattle.grid.specs.Answer.{over}
 use Rattle.grid.specs.Layout.{Between, between}
 use Rattle.representation.specs.declared.Bounds.{Bounds}
 use Rattle.representation.specs.declared.Parts.{Parts}
-use Rattle.representation.specs.Writing.{linesHeld, Rising, alignmentFrom, columnEntries, sectionFrom, rowEntries}
-use Rattle.representation.proofs.WriteLaws.{nobody, length-pairs, pair-at}
+use Rattle.representation.specs.LayoutEntries.{linesHeld, Rising, alignmentFrom, columnEntries, sectionFrom, rowEntries}
+use Rattle.representation.proofs.HeldLaws.{nobody, length-pairs, pair-at}
 
 -- ---- rows
 pub record RowsWritten (p : Parts) (rows : Bounds) (buffer : List ℕ) (k : ℕ) (out : List ℕ) : Type 0 where

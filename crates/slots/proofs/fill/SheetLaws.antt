@@ -25,7 +25,7 @@ use Rattle.slots.specs.declared.Filled.{Filled}
 use Rattle.slots.specs.Filling.{separates, separatorLines, NextRoom, NextFilled, AllFilled}
 use Rattle.representation.specs.Sheet.{Sheet}
 use Rattle.slots.specs.Replaced.{replaced}
-use Rattle.slots.proofs.ReplaceLaws.{part-before, part-replaced}
+use Rattle.slots.proofs.glyphs.ReplaceLaws.{part-before, part-replaced}
 
 -- an array with rows of slots from each y * 128 on, and one row more
 rows-more : (f : Slot → ℕ) (row : ℕ → List Slot) (width y : ℕ) (array array′ : List ℕ) → width ≤ 128 → y * 128 + width ≤ length array

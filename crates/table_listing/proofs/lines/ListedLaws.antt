@@ -28,7 +28,7 @@ use Rattle.printing.proofs.PutLaws.{prints-as}
 use Rattle.input_lines.proofs.SheetLaws.{zeroes, length-zeroes, sheetOf, sheet-agrees, sheet-lines, freshSpace, fresh-enough}
 use Rattle.table_listing.specs.Printing.{cellsOf, tableListed}
 use Rattle.table_listing.specs.Listed.{linesListed, Told}
-use Rattle.table_listing.proofs.FitLaws.{read-small, Rooms, small-fits}
+use Rattle.table_listing.proofs.lines.FitLaws.{read-small, Rooms, small-fits}
 
 -- The result in an array is its first entries
 

@@ -19,7 +19,7 @@ use Rattle.grid.specs.Layout.{firstOf, lastButOne, segmentAlignment}
 use Rattle.grid.specs.Flat.{alignmentCode}
 use Rattle.representation.specs.Arrays.{codeGlyph, codeAt}
 use Rattle.representation.specs.declared.Parts.{Parts}
-use Rattle.representation.specs.Writing.{alignmentFrom, sectionFrom}
+use Rattle.representation.specs.LayoutEntries.{alignmentFrom, sectionFrom}
 
 -- ---- where Head ends and Foot starts
 last-two : (last n : ℕ) (l : List ℕ) → suc n < length l → lastButOne last (take (suc (suc n)) l) ≡ someIf (eqb (getD l (suc n) 0) last) (getD l n 0)

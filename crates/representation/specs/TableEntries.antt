@@ -3,7 +3,7 @@ use Prim.Native.Nat.{ℕ, _-_}
 use mathlib.Core.List.{List, [], _∷_, map, flatMap}
 use Rattle.grid.specs.Values.{Rect}
 use Rattle.grid.specs.Layout.{Between, between, indexOf}
-use Rattle.representation.specs.Writing.{sectionFrom}
+use Rattle.representation.specs.LayoutEntries.{sectionFrom}
 use Rattle.representation.specs.declared.Parts.{Parts}
 
 -- each row's section

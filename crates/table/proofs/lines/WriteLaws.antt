@@ -14,11 +14,11 @@ use Rattle.grid.specs.Values.{Rect}
 use Rattle.grid.specs.Flat.{joinText}
 use Rattle.representation.specs.Arrays.{rectsOf}
 use Rattle.representation.proofs.RectsLaws.{rectAt, length-rects, getD-rects}
-use Rattle.representation.proofs.WriteLaws.{noRect, rect-holds}
+use Rattle.representation.proofs.HeldLaws.{noRect, rect-holds}
 use Rattle.cell.specs.Text.{Source, keptLines, allLines, Cuttable, Framed, CountedBy}
-use Rattle.cell.proofs.LineLaws.{kept-inner, kept-cuts}
-use Rattle.cell.proofs.TotalLaws.{counted-here}
-use Rattle.cell.proofs.LinesWriteLaws.{pieces}
+use Rattle.cell.proofs.pieces.LineLaws.{kept-inner, kept-cuts}
+use Rattle.cell.proofs.pieces.TotalLaws.{counted-here}
+use Rattle.cell.proofs.lines.WriteLaws.{pieces}
 
 -- entries of entries
 map-flatMap : {A B C : Type 0} (f : B → C) (g : A → List B) (l : List A) → flatMap (λ a. map f (g a)) l ≡ map f (flatMap g l)

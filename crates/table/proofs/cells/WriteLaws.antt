@@ -19,11 +19,11 @@ use Rattle.representation.specs.Arrays.{rectsOf}
 use Rattle.representation.proofs.RectsLaws.{length-rects}
 use Rattle.representation.specs.declared.Bounds.{Bounds}
 use Rattle.representation.specs.declared.Parts.{Parts}
-use Rattle.representation.specs.Writing.{linesHeld, Rising, sectionFrom, Numbered}
-use Rattle.representation.proofs.WriteLaws.{nobody, length-pairs, pair-at, AllNumbered, all-numbered, span-next}
+use Rattle.representation.specs.LayoutEntries.{linesHeld, Rising, sectionFrom, Numbered}
+use Rattle.representation.proofs.HeldLaws.{nobody, length-pairs, pair-at, AllNumbered, all-numbered, span-next}
 use Rattle.cell.specs.Text.{CountedBy}
-use Rattle.cell.proofs.TotalLaws.{counted-here}
-use Rattle.representation.specs.Entries.{sectionEntries, tableEntry, tableEntries}
+use Rattle.cell.proofs.pieces.TotalLaws.{counted-here}
+use Rattle.representation.specs.TableEntries.{sectionEntries, tableEntry, tableEntries}
 
 -- ---- sections: those of the first k rows
 pub record SectionsWritten (p : Parts) (tops : Bounds) (buffer : List ℕ) (k : ℕ) (out : List ℕ) : Type 0 where

@@ -21,10 +21,10 @@ use Rattle.layout.specs.declared.LayoutAnswer.the-variants.{Accepted, Refused}
 use Rattle.printing.specs.Printing.{Prints, refusedLine}
 use Rattle.printing.proofs.PutLaws.{prints-as}
 use Rattle.layout_listing.specs.Printing.{innerLines, tablePrinted}
-use Rattle.layout_listing.proofs.TableLaws.{columns-back, rows-back, cells-back, inner-cells}
+use Rattle.layout_listing.proofs.print.TableLaws.{columns-back, rows-back, cells-back, inner-cells}
 use Rattle.input_lines.proofs.SheetLaws.{zeroes, length-zeroes, sheetOf, sheet-agrees, sheet-lines, lines-counted, freshSpace, fresh-enough}
 use Rattle.layout_listing.specs.Listed.{listedLines, Told}
-use Rattle.layout_listing.proofs.SizeLaws.{Laid, laid, layout-small, Rooms, layout-fits}
+use Rattle.layout_listing.proofs.lines.SizeLaws.{Laid, laid, layout-small, Rooms, layout-fits}
 
 -- what an answer tells of the listing of lines, given what reading them answers
 abbrev ToldOf : List Line → LayoutArrays → Answer Layout → LayoutAnswer → Type 0

@@ -18,7 +18,7 @@ use Rattle.text.proofs.CharactersLaws.{span-four-columns-at-most}
 use Rattle.grid.specs.Slots.{Slot, glyphOf, slotsFrom}
 use Rattle.representation.specs.Arrays.{glyphCode, glyphCodes, slotBytes}
 use Rattle.slots.specs.Replaced.{replaced}
-use Rattle.slots.proofs.ReplaceLaws.{replaced-none, replaced-more, length-replaced}
+use Rattle.slots.proofs.glyphs.ReplaceLaws.{replaced-none, replaced-more, length-replaced}
 use Rattle.slots.specs.Line.{LineFilled}
 
 map-replicate : (f : Slot → ℕ) (n : ℕ) (s : Slot) → map f (replicate n s) ≡ replicate n (f s)

@@ -14,9 +14,9 @@ use Rattle.text.proofs.PlainLaws.{plain-first, plain-rest, plain-span}
 use Rattle.grid.specs.Slots.{Slot, glyphOf, slotsFrom}
 use Rattle.representation.specs.Arrays.{glyphCode, glyphCodes, slotBytes}
 use Rattle.slots.specs.Replaced.{replaced, byteCodes}
-use Rattle.slots.proofs.ReplaceLaws.{length-replaced}
+use Rattle.slots.proofs.glyphs.ReplaceLaws.{length-replaced}
 use Rattle.slots.specs.Line.{LineFilled}
-use Rattle.slots.proofs.LineLaws.{slotsOf}
+use Rattle.slots.proofs.line.LineLaws.{slotsOf}
 
 -- ---- the slots of a plain line
 plain-slots : (rule : Bool) (first at : ℕ) (s : List ℕ) → plain s ≡ true

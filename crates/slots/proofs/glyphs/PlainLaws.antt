@@ -13,7 +13,7 @@ use Rattle.seq.proofs.Gathered.{range-step}
 use Rattle.grid.specs.Slots.{glyphOf}
 use Rattle.representation.specs.Arrays.{glyphCode}
 use Rattle.slots.specs.Replaced.{replaced, byteCodes}
-use Rattle.slots.proofs.ReplaceLaws.{replaced-none, replaced-more, set-replaces}
+use Rattle.slots.proofs.glyphs.ReplaceLaws.{replaced-none, replaced-more, set-replaces}
 
 -- ---- one entry more
 module _ (array₀ array entries : List ℕ) (at i v : ℕ) (long : length entries ≡ i) (room : at + i < length array₀)

@@ -19,7 +19,7 @@ use Rattle.printing.proofs.PutLaws.{put-none, put-then, put-as, put-most, put-p
 use Rattle.grid.proofs.FlatLaws.{length-split}
 use Rattle.table_listing.specs.declared.print.Written.{Written}
 use Rattle.table_listing.specs.Printing.{TextPut, cellsOf, tableListed}
-use Rattle.table_listing.proofs.TextLaws.{take-least, drop-least}
+use Rattle.table_listing.proofs.print.TextLaws.{take-least, drop-least}
 
 pub turn-less : (i count : ℕ) → i < count → count - (i + 1) < count - i
 turn-less i count h = omega arith

@@ -13,7 +13,7 @@ use Rattle.grid.specs.Values.{Rect}
 use Rattle.representation.specs.Arrays.{rectsOf}
 use Rattle.representation.proofs.RectsLaws.{length-rects}
 use Rattle.grid.specs.Layout.{innerCount}
-use Rattle.representation.specs.Writing.{Inside}
+use Rattle.representation.specs.LayoutEntries.{Inside}
 use Rattle.layout.specs.Sized.{Measurable}
 
 -- they have few inner lines

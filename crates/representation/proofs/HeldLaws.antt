@@ -22,7 +22,7 @@ use Rattle.grid.specs.Layout.{Between, between, indexOf}
 use Rattle.grid.proofs.LayoutLaws.{length-between, between-at}
 use Rattle.representation.proofs.RectsLaws.{rectAt, length-rects, getD-rects}
 use Rattle.representation.specs.declared.Bounds.{Bounds}
-use Rattle.representation.specs.Writing.{linesHeld, Rising, Inside, Numbered}
+use Rattle.representation.specs.LayoutEntries.{linesHeld, Rising, Inside, Numbered}
 
 -- ---- the lines that an array holds, two neighbours a turn
 pub nobody : Between

@@ -15,7 +15,7 @@ use Rattle.seq.specs.Lists.{range}
 use Rattle.grid.specs.Values.{Rect}
 use Rattle.representation.specs.Arrays.{codeAt}
 use Rattle.grid.specs.Layout.{innerLines}
-use Rattle.representation.specs.Writing.{rangeEntries}
+use Rattle.representation.specs.LayoutEntries.{rangeEntries}
 
 -- ---- the ranges of one cell
 pub length-ranges : (offsets : List ℕ) (r : Rect) → length (rangeEntries offsets r) ≡ 2 * (r .bottom - r .top - 1)

@@ -15,9 +15,9 @@ use Rattle.grid.specs.Values.{Rect}
 use Rattle.representation.specs.Arrays.{codeAt, rectsOf}
 use Rattle.seq.proofs.Walks.{sum-more}
 use Rattle.representation.proofs.RectsLaws.{rectAt, length-rects, getD-rects}
-use Rattle.representation.specs.Writing.{rangeEntries, allRanges, Inside}
-use Rattle.representation.proofs.WriteLaws.{noRect, rect-holds, AllInside, bottom-small}
-use Rattle.layout.proofs.RangeLaws.{length-ranges}
+use Rattle.representation.specs.LayoutEntries.{rangeEntries, allRanges, Inside}
+use Rattle.representation.proofs.HeldLaws.{noRect, rect-holds, AllInside, bottom-small}
+use Rattle.layout.proofs.range_entries.RangeLaws.{length-ranges}
 
 -- ---- the ranges of all cells
 pub record AllWritten (rects : List ℕ) (n : ℕ) (offsets buffer : List ℕ) (k at : ℕ) (out : List ℕ) : Type 0 where

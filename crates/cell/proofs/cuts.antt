@@ -1,0 +1,2 @@
+-- Laws of the writing of cut lines.
+pub mod WriteLaws

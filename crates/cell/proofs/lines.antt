@@ -1,0 +1,2 @@
+-- Laws of the writing of lines.
+pub mod WriteLaws

@@ -1,0 +1,3 @@
+-- Laws of the part between the borders.
+pub mod FirstLaws
+pub mod PartLaws

@@ -1,0 +1,2 @@
+-- Laws of row and column lines.
+pub mod EdgeLaws

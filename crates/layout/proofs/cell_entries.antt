@@ -1,0 +1,2 @@
+-- Laws of the entries of cells.
+pub mod CellEntryLaws

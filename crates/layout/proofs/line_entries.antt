@@ -1,0 +1,2 @@
+-- Laws of the entries of columns and rows.
+pub mod LineEntryLaws

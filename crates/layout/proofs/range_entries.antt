@@ -1,0 +1,3 @@
+-- Laws of the entries of ranges.
+pub mod RangeLaws
+pub mod RangesLaws

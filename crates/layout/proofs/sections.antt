@@ -1,0 +1,2 @@
+-- Laws of sections and alignments.
+pub mod PartLaws

@@ -1,0 +1,2 @@
+-- Laws of a layout's sizes.
+pub mod SizedLaws

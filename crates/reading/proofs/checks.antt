@@ -1,0 +1,2 @@
+-- Laws of the checks 13 and 3.
+pub mod CheckLaws

@@ -1,9 +1,0 @@
-pub mod NextLaws
-pub mod SheetLaws
-pub mod ReplaceLaws
-pub mod GlyphLaws
-pub mod GlyphsPlainLaws
-pub mod LineLaws
-pub mod LinePlainLaws
-pub mod RunLaws
-pub mod ReachLaws

@@ -1,0 +1,3 @@
+-- Laws of the slots of all lines.
+pub mod NextLaws
+pub mod SheetLaws

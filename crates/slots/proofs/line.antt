@@ -1,0 +1,3 @@
+-- Laws of the slots of one line.
+pub mod LineLaws
+pub mod PlainLaws

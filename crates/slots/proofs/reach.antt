@@ -1,0 +1,3 @@
+-- Laws of how far borders reach.
+pub mod RunLaws
+pub mod ReachLaws

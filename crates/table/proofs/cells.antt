@@ -1,0 +1,2 @@
+-- Laws of the entries of rows and cells.
+pub mod WriteLaws

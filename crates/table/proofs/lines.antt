@@ -1,0 +1,2 @@
+-- Laws of the writing of all lines.
+pub mod WriteLaws

@@ -1,0 +1,3 @@
+-- Laws of cells in print.
+pub mod TextLaws
+pub mod CellLaws

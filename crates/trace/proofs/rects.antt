@@ -1,0 +1,2 @@
+-- Laws of the entries of a rectangle.
+pub mod PlacingLaws

@@ -1,0 +1,2 @@
+-- Laws of the search for a rectangle.
+pub mod SearchLaws

@@ -1,0 +1,2 @@
+-- Laws of the skyline.
+pub mod SkyLaws

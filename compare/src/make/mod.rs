@@ -1,6 +1,8 @@
 //! Inputs made from a seed: the same seed always gives the same inputs.
 
 pub mod edge;
+pub mod ends;
+pub mod pages;
 pub mod sheets;
 pub mod tables;
 pub mod text;

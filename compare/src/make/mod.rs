@@ -42,6 +42,15 @@ impl Rng {
         self.below(n) == 0
     }
 
+    /// A length below `need`: most often one less, or any less, or none.
+    pub fn shorter(&mut self, need: usize) -> usize {
+        match self.below(8) {
+            0 => 0,
+            1 => self.below(need),
+            _ => need - 1,
+        }
+    }
+
     pub fn pick<T: Copy>(&mut self, from: &[T]) -> T {
         from[self.below(from.len())]
     }

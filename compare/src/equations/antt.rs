@@ -1,11 +1,14 @@
 //! Terms and equations of antt in print.
 
+use std::array::from_fn;
+
 use crate::make::Rng;
 use crate::paper::{Answer, Refusal};
 
-/// An input with its equations.
-#[derive(Default)]
+/// An input with its equations, which hold by computing.
 pub struct Case {
+    /// The name that opens the definitions.
+    opened: &'static str,
     pub text: String,
     pub equations: usize,
     /// The number of each answer, 0 for acceptance.
@@ -13,29 +16,45 @@ pub struct Case {
 }
 
 impl Case {
+    pub fn new(opened: &'static str) -> Case {
+        Case {
+            opened,
+            text: String::new(),
+            equations: 0,
+            numbers: vec![],
+        }
+    }
+
     /// A name for a term.
     pub fn name(&mut self, name: &str, of_type: &str, term: &str) {
         self.text += &format!("\nabbrev {name} : {of_type}\n{name} = {term}\n");
     }
 
-    /// What a call answers.
-    pub fn answer(&mut self, name: &str, opened: &str, call: &str, answer: &Answer<String>) {
-        self.numbers.push(match answer {
-            Ok(_) => 0,
-            Err(refusal) => refusal.number,
-        });
-        let right = match answer {
-            Ok(term) => format!("accept ({term})"),
-            Err(refusal) => format!("refuse {} {}", refusal.number, refusal.place),
-        };
-        self.equation(name, opened, call, &right);
-    }
-
-    /// An equation that holds by computing, with these definitions open.
-    pub fn equation(&mut self, name: &str, opened: &str, left: &str, right: &str) {
+    pub fn equation(&mut self, name: &str, left: &str, right: &str) {
+        let opened = self.opened;
         self.equations += 1;
         self.text += &format!("\n{name} : {left}\n    ≡ {right}\n");
         self.text += &format!("unfolding {opened}\n{name} = refl\n");
+    }
+
+    /// What a call answers.
+    pub fn answer(&mut self, name: &str, call: &str, answer: &Answer<String>) {
+        let (number, right) = match answer {
+            Ok(term) => (0, format!("accept ({term})")),
+            Err(Refusal { number, place }) => (*number, format!("refuse {number} {place}")),
+        };
+        self.numbers.push(number);
+        self.equation(name, call, &right);
+    }
+
+    /// What a call answers and what its outputs hold afterwards. The two
+    /// definitions start with the same word.
+    pub fn call(&mut self, name: &str, word: &str, given: &str, outputs: &Outputs) {
+        let lent = &outputs.lent;
+        let answered = format!("{word}Answer {given} ({lent})");
+        self.answer(name, &answered, &outputs.answer);
+        let afterwards = format!("{word}Afterwards {given} ({lent})");
+        self.equation(&format!("{name}-after"), &afterwards, &outputs.after);
     }
 }
 
@@ -63,50 +82,55 @@ pub fn numbers(names: &[&str], values: &[usize]) -> String {
     record(names, &terms)
 }
 
-/// What a call answers, the output arrays that it is lent, and what they hold
+/// The output arrays that a call is lent, its answer, and what they hold
 /// afterwards.
-pub struct Call {
-    pub answer: Answer<String>,
-    pub lent: Vec<String>,
-    pub after: Vec<String>,
+pub struct Outputs {
+    lent: String,
+    answer: Answer<String>,
+    after: String,
 }
 
-/// Output arrays for these results, each with an entry past its result; now
-/// and then one is too short. A refused call leaves them.
-pub fn call<const N: usize>(rng: &mut Rng, expected: Answer<(String, [Vec<usize>; N])>) -> Call {
-    // Each array is filled with another number.
-    let fill = |i: usize| 201 + i;
-    let lent = |lengths: [usize; N]| -> Vec<String> {
-        (0..N)
-            .map(|i| format!("replicate {} {}", lengths[i], fill(i)))
-            .collect()
-    };
-    let refused = |refusal: Refusal, lengths: [usize; N]| Call {
-        answer: Err(refusal),
-        lent: lent(lengths),
-        after: lent(lengths),
-    };
-    let (term, results) = match expected {
-        Ok(expected) => expected,
-        Err(refusal) => return refused(refusal, [3; N]),
-    };
-    let mut lengths: [usize; N] = std::array::from_fn(|i| results[i].len() + 1);
-    let short = rng.below(N);
-    if !results[short].is_empty() && rng.once_in(8) {
-        lengths[short] = rng.shorter(results[short].len());
-        return refused(
-            Refusal {
+impl Outputs {
+    /// Arrays for these results, each with an entry past its result; now and
+    /// then one is too short. A refused call leaves them. They are fields of
+    /// these names, or one array without a name.
+    pub fn new<const N: usize>(
+        rng: &mut Rng,
+        names: [&str; N],
+        expected: Answer<(String, [Vec<usize>; N])>,
+    ) -> Outputs {
+        let together = |terms: [String; N]| match names[..] {
+            [""] => terms.concat(),
+            _ => record(&names, &terms),
+        };
+        // Each array is filled with another number.
+        let fill = |i: usize| 201 + i;
+        let lent = |lengths: [usize; N]| {
+            together(from_fn(|i| format!("replicate {} {}", lengths[i], fill(i))))
+        };
+        let refused = |refusal: Refusal, lengths: [usize; N]| Outputs {
+            lent: lent(lengths),
+            answer: Err(refusal),
+            after: lent(lengths),
+        };
+        let (term, results) = match expected {
+            Ok(expected) => expected,
+            Err(refusal) => return refused(refusal, [3; N]),
+        };
+        let mut lengths: [usize; N] = from_fn(|i| results[i].len() + 1);
+        let short = rng.below(N);
+        if !results[short].is_empty() && rng.once_in(8) {
+            lengths[short] = rng.shorter(results[short].len());
+            let refusal = Refusal {
                 number: 12,
                 place: 0,
-            },
-            lengths,
-        );
-    }
-    Call {
-        answer: Ok(term),
-        lent: lent(lengths),
-        after: (0..N)
-            .map(|i| list(&[&results[i][..], &[fill(i)]].concat()))
-            .collect(),
+            };
+            return refused(refusal, lengths);
+        }
+        Outputs {
+            lent: lent(lengths),
+            answer: Ok(term),
+            after: together(from_fn(|i| list(&[&results[i][..], &[fill(i)]].concat()))),
+        }
     }
 }

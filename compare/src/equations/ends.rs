@@ -18,8 +18,6 @@ use Rattle.sourcepos.specs.LineEndCalls.{Register, addAnswer, addAfterwards, fi
 use Rattle.sourcepos.specs.Computing.{positions}
 ";
 
-const OPENED: &str = "positions";
-
 pub fn cases(rng: &mut Rng, n: usize) -> Vec<Option<Case>> {
     (0..n).map(|i| Some(case(rng, i))).collect()
 }
@@ -70,40 +68,28 @@ fn case(rng: &mut Rng, i: usize) -> Case {
         assert_eq!(grid_table::remap(moved, &fragments), to);
     });
 
-    let mut case = Case::default();
+    let mut case = Case::new("positions");
     case.name(&format!("register{i}"), "Register", &register(&held));
-    let left = |word: &str| format!("add{word} register{i} ({})", end(new));
+    let given = format!("register{i} ({})", end(new));
     let after = match &added {
         Ok(longer) => register(longer),
         Err(_) => format!("register{i}"),
     };
     let count = added.map(|longer| longer.len().to_string());
-    case.answer(&format!("add-{i}"), OPENED, &left("Answer"), &count);
-    case.equation(
-        &format!("add-{i}-after"),
-        OPENED,
-        &left("Afterwards"),
-        &after,
-    );
+    case.answer(&format!("add-{i}"), &format!("addAnswer {given}"), &count);
+    let afterwards = format!("addAfterwards {given}");
+    case.equation(&format!("add-{i}-after"), &afterwards, &after);
 
     let eol = found.map(|found| match found {
         Some(eol) => format!("some {eol}"),
         None => "none".to_string(),
     });
-    case.answer(
-        &format!("find-{i}"),
-        OPENED,
-        &format!("findAnswer register{i} {line} {column}"),
-        &eol,
-    );
+    let call = format!("findAnswer register{i} {line} {column}");
+    case.answer(&format!("find-{i}"), &call, &eol);
 
     let (lines, bytes): (Vec<usize>, Vec<usize>) = fragments.into_iter().unzip();
     let given = format!("{} ({}) ({})", lines.len(), list(&lines), list(&bytes));
-    case.answer(
-        &format!("remap-{i}"),
-        OPENED,
-        &format!("remapAnswer {given} ({})", end(moved)),
-        &remapped.map(end),
-    );
+    let call = format!("remapAnswer {given} ({})", end(moved));
+    case.answer(&format!("remap-{i}"), &call, &remapped.map(end));
     case
 }

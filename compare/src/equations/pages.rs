@@ -1,6 +1,6 @@
 //! The page call.
 
-use super::antt::{Case, bytes, call, list, numbers, record};
+use super::antt::{Case, Outputs, bytes, list, numbers, record};
 use crate::given;
 use crate::make::{self, Rng};
 use crate::paper::page::{self, PageTable};
@@ -17,7 +17,6 @@ use Rattle.html.specs.PageCall.{PageSizes, PageArrays, pageSpace, pageAnswer, p
 use Rattle.html.specs.Computing.{rendering}
 ";
 
-const OPENED: &str = "rendering";
 /// Larger ones take too long to compute.
 const NUMBERS: usize = 800;
 
@@ -45,7 +44,7 @@ fn case(rng: &mut Rng, i: usize, table: &PageTable) -> Case {
         let total: usize = table.widths.iter().sum();
         assert!(widths && total == 0 || *page == given::page(table, widths));
     });
-    let mut case = Case::default();
+    let mut case = Case::new("rendering");
     let mut space = "pageSpace";
     if rng.once_in(16) {
         space = "(pageSpace - 1)";
@@ -65,23 +64,12 @@ fn case(rng: &mut Rng, i: usize, table: &PageTable) -> Case {
     let names = ["columns", "sections", "cells", "inner"];
     case.name(&format!("table{i}"), "PageArrays", &record(&names, &arrays));
 
-    let call = call(
-        rng,
-        answer.map(|page| {
-            let page: Vec<usize> = page.iter().map(|&b| b.into()).collect();
-            (page.len().to_string(), [page])
-        }),
-    );
-    let left = |word: &str| {
-        let lent = &call.lent[0];
-        format!("page{word} {space} {widths} sizes{i} table{i} ({lent})")
-    };
-    case.answer(&format!("page-{i}"), OPENED, &left("Answer"), &call.answer);
-    case.equation(
-        &format!("page-{i}-after"),
-        OPENED,
-        &left("Afterwards"),
-        &call.after[0],
-    );
+    let expected = answer.map(|page| {
+        let page: Vec<usize> = page.iter().map(|&b| b.into()).collect();
+        (page.len().to_string(), [page])
+    });
+    let outputs = Outputs::new(rng, [""], expected);
+    let given = format!("{space} {widths} sizes{i} table{i}");
+    case.call(&format!("page-{i}"), "page", &given, &outputs);
     case
 }

@@ -1,6 +1,7 @@
 //! Drawings: the layout, table, cell and positions calls.
 
-use super::antt::{Call, Case, bytes, call, list, numbers, record};
+use super::antt::{Case, Outputs, bytes, list, numbers, record};
+use crate::library::{COUNT_SPACE, RECT_SPACE, SLOT_SPACE, START_SPACE};
 use crate::make::{self, Rng, edge};
 use crate::paper::layout::Layout;
 use crate::paper::positions::{self, Position, Positions};
@@ -22,13 +23,12 @@ use Rattle.sourcepos.specs.PositionsCall.{FlatPlaced, positionsAnswer, position
 use Rattle.sourcepos.specs.Computing.{positions}
 ";
 
-const OPENED: &str = "positions";
 /// Larger ones take too long to compute.
 const BYTES: usize = 800;
 
-const SPACE: [&str; 5] = ["glyphs", "offsets", "down", "right", "rects"];
-const TABLE_SPACE: [&str; 2] = ["starts", "counts"];
-const ENOUGH: [usize; 7] = [16_384, 16_384, 16_384, 16_384, 4_096, 128, 1_024];
+/// Working space of all calls, and of the table call besides.
+const SPACE: [usize; 5] = [SLOT_SPACE, SLOT_SPACE, SLOT_SPACE, SLOT_SPACE, RECT_SPACE];
+const TABLE_SPACE: [usize; 2] = [START_SPACE, COUNT_SPACE];
 
 pub fn cases(rng: &mut Rng, n: usize) -> Vec<Option<Case>> {
     let mut fixed = edge::sheets().into_iter();
@@ -72,12 +72,11 @@ fn read(sheet: &Sheet) -> Answer<Read> {
 }
 
 fn case(rng: &mut Rng, i: usize, sheet: &Sheet) -> Case {
-    let mut case = Case::default();
-    let mut space = ENOUGH;
+    let mut case = Case::new("positions");
+    let mut space = SPACE;
     let mut read = read(sheet);
     let (lines, table_bytes) = make::sheets::places(rng, sheet.lengths.len());
     let mut found = placed(sheet, &lines, &table_bytes);
-    // Working space that every call uses, one entry short.
     if rng.once_in(16) {
         space[rng.below(5)] -= 1;
         read = refuse(13, 0);
@@ -96,13 +95,14 @@ fn case(rng: &mut Rng, i: usize, sheet: &Sheet) -> Case {
         "FlatDrawing",
         &record(&names, &arrays),
     );
+    let names = ["glyphs", "offsets", "down", "right", "rects"];
     case.name(
         &format!("space{i}"),
         "LayoutSpace",
-        &numbers(&SPACE, &space[..5]),
+        &numbers(&names, &space),
     );
     layout(rng, &mut case, i, &read);
-    table(rng, &mut case, i, space, &read);
+    table(rng, &mut case, i, &read);
     cells(rng, &mut case, i, &read);
     let drawing = [format!("sheet{i}"), list(&lines), list(&table_bytes)];
     let names = ["drawing", "numbers", "tableBytes"];
@@ -116,56 +116,31 @@ fn case(rng: &mut Rng, i: usize, sheet: &Sheet) -> Case {
 }
 
 fn layout(rng: &mut Rng, case: &mut Case, i: usize, read: &Answer<Read>) {
-    let expected = read.as_ref().map(|read| {
+    let expected = read.as_ref().map_err(|&refusal| refusal).map(|read| {
         let names = ["width", "columns", "rows", "cells", "ranges"];
-        let sizes = numbers(&names, &read.layout.sizes());
-        (sizes, read.layout.arrays())
+        (numbers(&names, &read.layout.sizes()), read.layout.arrays())
     });
-    let call = call(rng, expected.map_err(|&refusal| refusal));
     let names = ["columns", "rows", "cells", "ranges"];
-    both(
-        case,
-        i,
-        "layout",
-        &format!("space{i} sheet{i}"),
-        &names,
-        &call,
-    );
+    let outputs = Outputs::new(rng, names, expected);
+    let given = format!("space{i} sheet{i}");
+    case.call(&format!("layout-{i}"), "layout", &given, &outputs);
 }
 
-fn table(rng: &mut Rng, case: &mut Case, i: usize, space: [usize; 7], read: &Answer<Read>) {
-    let mut space = space;
+fn table(rng: &mut Rng, case: &mut Case, i: usize, read: &Answer<Read>) {
     let mut expected = read.as_ref().map_err(|&refusal| refusal).map(|read| {
         let names = ["columns", "rows", "cells", "lines", "bytes"];
         (numbers(&names, &read.table.sizes()), read.table.arrays())
     });
+    let mut space = TABLE_SPACE;
     if rng.once_in(16) {
-        space[5 + rng.below(2)] -= 1;
+        space[rng.below(2)] -= 1;
         expected = refuse(13, 0);
     }
-    let call = call(rng, expected);
-    let more = numbers(&TABLE_SPACE, &space[5..]);
+    let space = numbers(&["starts", "counts"], &space);
     let names = ["columns", "sections", "cells", "lengths", "text"];
-    let given = format!("space{i} ({more}) sheet{i}");
-    both(case, i, "table", &given, &names, &call);
-}
-
-/// A call's answer, and its arrays afterwards.
-fn both(case: &mut Case, i: usize, what: &str, given: &str, names: &[&str], call: &Call) {
-    let lent = record(names, &call.lent);
-    let left = |word: &str| format!("{what}{word} {given} ({lent})");
-    case.answer(
-        &format!("{what}-{i}"),
-        OPENED,
-        &left("Answer"),
-        &call.answer,
-    );
-    case.equation(
-        &format!("{what}-{i}-after"),
-        OPENED,
-        &left("Afterwards"),
-        &record(names, &call.after),
-    );
+    let outputs = Outputs::new(rng, names, expected);
+    let given = format!("space{i} ({space}) sheet{i}");
+    case.call(&format!("table-{i}"), "table", &given, &outputs);
 }
 
 /// A cell, and the number past the last.
@@ -182,20 +157,9 @@ fn cells(rng: &mut Rng, case: &mut Case, i: usize, read: &Answer<Read>) {
                 Some(cuts) => Ok(((cuts.len() / 4).to_string(), [cuts.clone()])),
             },
         };
-        let call = call(rng, expected);
-        let left = |word: &str| format!("cell{word} space{i} 128 sheet{i} {k} ({})", call.lent[0]);
-        case.answer(
-            &format!("cell-{i}-{k}"),
-            OPENED,
-            &left("Answer"),
-            &call.answer,
-        );
-        case.equation(
-            &format!("cell-{i}-{k}-after"),
-            OPENED,
-            &left("Afterwards"),
-            &call.after[0],
-        );
+        let outputs = Outputs::new(rng, [""], expected);
+        let given = format!("space{i} 128 sheet{i} {k}");
+        case.call(&format!("cell-{i}-{k}"), "cell", &given, &outputs);
     }
 }
 
@@ -220,9 +184,9 @@ fn place(rng: &mut Rng, case: &mut Case, i: usize, found: &Answer<Positions>) {
         let arrays = [flat(&found.rows), flat(&found.cells)];
         (record(&["table", "rows", "cells"], &sizes), arrays)
     });
-    let call = call(rng, expected);
+    let outputs = Outputs::new(rng, ["rows", "cells"], expected);
     let given = format!("space{i} 128 placed{i}");
-    both(case, i, "positions", &given, &["rows", "cells"], &call);
+    case.call(&format!("positions-{i}"), "positions", &given, &outputs);
 
     let k = match found {
         Ok(found) => rng.below(found.cells.len() + 1),
@@ -235,12 +199,8 @@ fn place(rng: &mut Rng, case: &mut Case, i: usize, found: &Answer<Positions>) {
             Some(&cell) => Ok(position(cell)),
         },
     };
-    case.answer(
-        &format!("position-{i}-{k}"),
-        OPENED,
-        &format!("cellPositionAnswer {given} {k}"),
-        &one,
-    );
+    let call = format!("cellPositionAnswer {given} {k}");
+    case.answer(&format!("position-{i}-{k}"), &call, &one);
 }
 
 /// The Rust's positions, or the refusal.

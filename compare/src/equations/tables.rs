@@ -1,6 +1,6 @@
 //! Tables: the redraw call.
 
-use super::antt::{Case, call, list, numbers, record};
+use super::antt::{Case, Outputs, list, numbers, record};
 use crate::given;
 use crate::make::{self, Rng, edge};
 use crate::paper::redraw::{self, Space};
@@ -19,7 +19,6 @@ use Rattle.drawing.specs.RedrawCall.{redrawSpace, redrawAnswer, redrawAfterward
 use Rattle.drawing.specs.Computing.{redrawing}
 ";
 
-const OPENED: &str = "redrawing";
 /// Larger ones take too long to compute.
 const NUMBERS: usize = 800;
 
@@ -45,7 +44,7 @@ fn case(rng: &mut Rng, i: usize, table: &Table, origin: usize) -> Case {
     let mut answer = redraw::redraw(table, origin, Space::ENOUGH).inspect(|drawn| {
         assert_eq!(*drawn, given::draw(table, origin));
     });
-    let mut case = Case::default();
+    let mut case = Case::new("redrawing");
     let mut space = "redrawSpace";
     if rng.once_in(16) {
         space = "(redrawSpace - 1)";
@@ -62,25 +61,10 @@ fn case(rng: &mut Rng, i: usize, table: &Table, origin: usize) -> Case {
         &record(&names, &arrays),
     );
 
-    let call = call(
-        rng,
-        answer.map(|drawn| (drawn_sizes(&drawn), arrays_of(drawn))),
-    );
-    let names = ["lengths", "columns", "text"];
-    let lent = record(&names, &call.lent);
-    let left = |word: &str| format!("redraw{word} {space} {origin} sizes{i} table{i} ({lent})");
-    case.answer(
-        &format!("redraw-{i}"),
-        OPENED,
-        &left("Answer"),
-        &call.answer,
-    );
-    case.equation(
-        &format!("redraw-{i}-after"),
-        OPENED,
-        &left("Afterwards"),
-        &record(&names, &call.after),
-    );
+    let expected = answer.map(|drawn| (drawn_sizes(&drawn), arrays_of(drawn)));
+    let outputs = Outputs::new(rng, ["lengths", "columns", "text"], expected);
+    let given = format!("{space} {origin} sizes{i} table{i}");
+    case.call(&format!("redraw-{i}"), "redraw", &given, &outputs);
     case
 }
 

@@ -23,6 +23,7 @@ pub fn run(word: &str) -> bool {
     if cfg!(debug_assertions) {
         println!("(not built by --profile speed: the Rust has its own checks on)");
     }
+    keep_freed_memory();
     let mut lent = Lent::new();
     heading("Drawing, to its layout");
     for (name, lines) in inputs::all() {
@@ -39,6 +40,24 @@ pub fn run(word: &str) -> bool {
     }
     true
 }
+
+/// Has glibc keep what is freed. It would else hand the memory of one layout
+/// back to the system and fetch it for the next, which on some drawings takes
+/// longer than the Rust's own work.
+#[cfg(target_env = "gnu")]
+fn keep_freed_memory() {
+    unsafe extern "C" {
+        fn mallopt(parameter: i32, value: i32) -> i32;
+    }
+    const TRIM_THRESHOLD: i32 = -1;
+    const MMAP_THRESHOLD: i32 = -3;
+    // SAFETY: glibc's own call, which takes any two numbers.
+    let kept = unsafe { mallopt(TRIM_THRESHOLD, i32::MAX) & mallopt(MMAP_THRESHOLD, 1 << 25) };
+    assert_eq!(kept, 1);
+}
+
+#[cfg(not(target_env = "gnu"))]
+fn keep_freed_memory() {}
 
 fn heading(what: &str) {
     println!("| {what} | lines | width | cells | Rust, us | ours, us | ratio |");

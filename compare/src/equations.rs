@@ -22,7 +22,8 @@ const FILE: usize = 20;
 /// Writes the crate `equations` into a copy of the repository.
 pub fn write(seed: u64, n: usize, repository: &Path) -> io::Result<()> {
     let list = repository.join("crates.txt");
-    let mut crates = fs::read_to_string(&list)?;
+    let mut crates = fs::read_to_string(&list)
+        .map_err(|e| io::Error::other(format!("{}: {e}", list.display())))?;
     let mut folder = Folder::new(repository.join("crates").join(NAME))?;
     let rng = &mut Rng::new(seed);
     folder.add("Sheets", sheets::HEAD, sheets::cases(rng, n))?;

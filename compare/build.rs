@@ -10,6 +10,13 @@ use std::{env, fs};
 
 const VARIABLE: &str = "COMRAK_DIR";
 const LIBRARY: &str = "GRID_LIB_DIR";
+/// The calls that `src/library.rs` declares.
+const CALLS: [&str; 4] = [
+    "grid_layout",
+    "grid_cell_fragment",
+    "grid_table",
+    "grid_cell",
+];
 
 fn main() {
     println!("cargo::rerun-if-env-changed={VARIABLE}");
@@ -37,31 +44,37 @@ fn main() {
     link_library();
 }
 
-/// Links `libabi.a` of the folder that the variable names, if it is set.
+/// Links `libgridtable.a` of the folder that the variable names, if it is set.
 fn link_library() {
     println!("cargo::rerun-if-env-changed={LIBRARY}");
     println!("cargo::rustc-check-cfg=cfg(grid_lib)");
-    println!("cargo::rustc-check-cfg=cfg(grid_table)");
-    println!("cargo::rustc-check-cfg=cfg(grid_cell)");
     let Some(value) = env::var_os(LIBRARY) else {
         return;
     };
     let folder = fs::canonicalize(&value)
         .unwrap_or_else(|e| stop(&format!("{LIBRARY}: {}: {e}", value.display())));
-    let archive = folder.join("libabi.a");
+    let archive = folder.join("libgridtable.a");
     if !archive.is_file() {
         stop(&format!("{LIBRARY}: {} is not there", archive.display()));
     }
     println!("cargo::rerun-if-changed={}", archive.display());
     println!("cargo::rustc-link-search=native={}", folder.display());
-    println!("cargo::rustc-link-lib=static=abi");
+    println!("cargo::rustc-link-lib=static=gridtable");
     println!("cargo::rustc-cfg=grid_lib");
-    // An archive may be without these calls.
-    let bytes = fs::read(&archive).unwrap_or_else(|e| stop(&format!("{}: {e}", archive.display())));
-    for call in ["grid_table", "grid_cell"] {
+    require_calls(&archive);
+}
+
+/// Stops where an archive, of an older state say, is without a call that is
+/// compared, in a sentence that the linker would not find.
+fn require_calls(archive: &Path) {
+    let bytes = fs::read(archive).unwrap_or_else(|e| stop(&format!("{}: {e}", archive.display())));
+    for call in CALLS {
         let name = format!("{call}\0").into_bytes();
-        if bytes.windows(name.len()).any(|part| part == name) {
-            println!("cargo::rustc-cfg={call}");
+        if !bytes.windows(name.len()).any(|part| part == name) {
+            stop(&format!(
+                "{LIBRARY}: {} is without the call {call}",
+                archive.display()
+            ));
         }
     }
 }

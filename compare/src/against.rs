@@ -78,35 +78,24 @@ pub fn answer(sheet: &Sheet) -> Option<Answer<Layout>> {
 
 /// What the call writes to each output array.
 fn arrays(read: &Layout) -> [Vec<u16>; 4] {
-    let n = |number: usize| u16::try_from(number).unwrap();
-    let columns = read.columns.iter().flat_map(|c| [c.alignment, c.width]);
-    let rows = read.rows.iter().flat_map(|r| [r.section, r.top, r.bottom]);
-    let cells = read
-        .cells
-        .iter()
-        .flat_map(|c| [c.row, c.column, c.colspan, c.rowspan, c.left]);
-    let ranges = read.cells.iter().flat_map(|c| &c.inner);
-    [
-        columns.map(n).collect(),
-        rows.map(n).collect(),
-        cells.map(n).collect(),
-        ranges
-            .flat_map(|&(start, end)| [n(start), n(end)])
-            .collect(),
-    ]
+    let entry = |number: usize| u16::try_from(number).unwrap();
+    read.arrays().map(|a| a.into_iter().map(entry).collect())
 }
 
 fn reply(answer: &Answer<Layout>) -> LayoutReply {
     match answer {
-        Ok(read) => LayoutReply {
-            number: 0,
-            place: 0,
-            width: read.width,
-            columns: read.columns.len(),
-            rows: read.rows.len(),
-            cells: read.cells.len(),
-            ranges: read.cells.iter().map(|c| c.inner.len()).sum(),
-        },
+        Ok(read) => {
+            let [width, columns, rows, cells, ranges] = read.sizes();
+            LayoutReply {
+                number: 0,
+                place: 0,
+                width,
+                columns,
+                rows,
+                cells,
+                ranges,
+            }
+        }
         Err(refusal) => LayoutReply {
             number: refusal.number,
             place: refusal.place,

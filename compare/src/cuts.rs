@@ -1,5 +1,5 @@
-//! `compare cut`: the library's cutting call, and its table and cell calls
-//! where the archive has them, held against the Rust and the second reading.
+//! `compare cut`: the library's cutting, table and cell calls, held against
+//! the Rust and the second reading.
 
 mod cells;
 mod lent;
@@ -11,7 +11,7 @@ use std::fmt::Debug;
 
 use crate::against::guarded::{GUARD, Guarded};
 use crate::against::{self, limits, small};
-use crate::library::{self, CutReply, Cutting, HAS_CELL, HAS_TABLE};
+use crate::library::{self, CutReply, Cutting};
 use crate::make::{self, Rng};
 use crate::paper::cut::Line;
 use crate::paper::layout::Layout;
@@ -53,15 +53,8 @@ pub fn run(seed: u64, cuts: usize) -> bool {
         println!("{call} answer {number}: {count}");
     }
     println!("cuts: {}", run.cuts);
-    for (call, has, calls) in [
-        ("table", HAS_TABLE, run.tables.calls),
-        ("cell", HAS_CELL, run.cells.calls),
-    ] {
-        match has {
-            true => println!("{call} calls: {calls}"),
-            false => println!("{call} calls: none, the archive is without the call"),
-        }
-    }
+    println!("table calls: {}", run.tables.calls);
+    println!("cell calls: {}", run.cells.calls);
     for (what, count) in &tally.differing {
         println!("differing, {what}: {count}");
     }
@@ -290,20 +283,15 @@ impl Run {
             cuts = Ok(cells::cuts(read, &rust, &bytes));
             built = Some(rust);
         }
-        if HAS_CELL {
-            let answer = answer.as_ref().map_err(|&refusal| refusal).and(cuts);
-            self.cells
-                .sheet(&mut self.rng, &mut self.tally, sheet, &answer);
-        }
-        if HAS_TABLE {
-            let expected = tables::expected(sheet, &answer, built.as_ref());
-            match expected {
-                Some(expected) => {
-                    self.tables
-                        .sheet(&mut self.rng, &mut self.tally, sheet, &expected);
-                }
-                None => self.tally.differ("the oracles disagree", sheet, &(), &()),
+        let cell_answer = answer.as_ref().map_err(|&refusal| refusal).and(cuts);
+        self.cells
+            .sheet(&mut self.rng, &mut self.tally, sheet, &cell_answer);
+        match tables::expected(sheet, &answer, built.as_ref()) {
+            Some(expected) => {
+                self.tables
+                    .sheet(&mut self.rng, &mut self.tally, sheet, &expected);
             }
+            None => self.tally.differ("the oracles disagree", sheet, &(), &()),
         }
     }
 

@@ -3,10 +3,11 @@
 
 use crate::nodes::{
     Arena, GridTableColumn, GridTableSection, Node, NodeGridTable, NodeGridTableCell, NodeValue,
-    TableAlignment,
+    Sourcepos, TableAlignment,
 };
 use crate::paper::layout::{Cell, Column, Layout, Row};
 use crate::paper::page::PageTable;
+use crate::paper::positions::Positions;
 use crate::paper::sheet::Sheet;
 use crate::paper::table::{Place, Table};
 use crate::parser::grid_table::{self, Built, PlacedLine};
@@ -78,6 +79,16 @@ pub fn build(sheet: &Sheet, numbers: &[usize], bytes: &[usize]) -> Option<Built>
         })
         .collect();
     grid_table::build(&lines)
+}
+
+/// The positions that `build_grid_table` gives its nodes.
+pub fn positions(built: &Built) -> Positions {
+    let four = |p: Sourcepos| (p.start.line, p.start.column, p.end.line, p.end.column);
+    Positions {
+        table: four(built.table),
+        rows: built.rows.iter().copied().map(four).collect(),
+        cells: built.cells.iter().map(|cell| four(cell.0)).collect(),
+    }
 }
 
 /// The table of a sheet whose lines are UTF-8, from `layout` and the cut lines of

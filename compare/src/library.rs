@@ -1,6 +1,6 @@
 //! The proved library's calls. Linked where `GRID_LIB_DIR` named its folder
 //! at the build.
-#![cfg_attr(not(all(grid_lib, grid_table, grid_cell)), allow(dead_code))]
+#![cfg_attr(not(grid_lib), allow(dead_code))]
 
 use std::io;
 
@@ -11,11 +11,6 @@ pub const RECT_SPACE: usize = 4_096;
 /// many lines each cell has.
 pub const START_SPACE: usize = 128;
 pub const COUNT_SPACE: usize = 1_024;
-
-/// Whether the archive has the table call.
-pub const HAS_TABLE: bool = cfg!(grid_table);
-/// Whether it has the cell call.
-pub const HAS_CELL: bool = cfg!(grid_cell);
 
 /// A drawing as it is handed in.
 #[derive(Clone, Copy)]
@@ -129,7 +124,7 @@ pub fn linked() -> io::Result<()> {
         return Ok(());
     }
     Err(io::Error::other(
-        "built without the proved library: set GRID_LIB_DIR to the folder of libabi.a and build again",
+        "built without the proved library: set GRID_LIB_DIR to the folder of libgridtable.a and build again",
     ))
 }
 
@@ -186,7 +181,7 @@ pub fn cut(given: Cutting<'_>) -> CutReply {
     }
 }
 
-#[cfg(grid_table)]
+#[cfg(grid_lib)]
 pub fn table(
     drawing: Drawing<'_>,
     space: Space<'_>,
@@ -232,7 +227,7 @@ pub fn table(
     }
 }
 
-#[cfg(grid_cell)]
+#[cfg(grid_lib)]
 pub fn cell(
     drawing: Drawing<'_>,
     space: Space<'_>,
@@ -270,33 +265,37 @@ pub fn cell(
     }
 }
 
-#[cfg(not(grid_cell))]
-pub fn cell(_: Drawing<'_>, _: Space<'_>, _: &mut [u16], _: usize, _: &mut [u16]) -> CellReply {
-    unreachable!("the commands ask first whether the call is there")
-}
-
 #[cfg(not(grid_lib))]
-pub fn cut(_: Cutting<'_>) -> CutReply {
-    unreachable!("the commands ask first whether the library is linked")
-}
+pub use unlinked::{cell, cut, layout, table};
 
-#[cfg(not(grid_table))]
-pub fn table(_: Drawing<'_>, _: Space<'_>, _: MoreSpace<'_>, _: TableOutput<'_>) -> TableReply {
-    unreachable!("the commands ask first whether the call is there")
-}
-
+/// So that the commands compile without the library; they ask first.
 #[cfg(not(grid_lib))]
-pub fn layout(_: Drawing<'_>, _: Space<'_>, _: Output<'_>) -> LayoutReply {
-    unreachable!("the commands ask first whether the library is linked")
+mod unlinked {
+    use super::{
+        CellReply, CutReply, Cutting, Drawing, LayoutReply, MoreSpace, Output, Space, TableOutput,
+        TableReply,
+    };
+
+    pub fn layout(_: Drawing<'_>, _: Space<'_>, _: Output<'_>) -> LayoutReply {
+        unreachable!()
+    }
+
+    pub fn cut(_: Cutting<'_>) -> CutReply {
+        unreachable!()
+    }
+
+    pub fn table(_: Drawing<'_>, _: Space<'_>, _: MoreSpace<'_>, _: TableOutput<'_>) -> TableReply {
+        unreachable!()
+    }
+
+    pub fn cell(_: Drawing<'_>, _: Space<'_>, _: &mut [u16], _: usize, _: &mut [u16]) -> CellReply {
+        unreachable!()
+    }
 }
 
 #[cfg(grid_lib)]
 mod calls {
-    #[cfg(grid_cell)]
-    use super::CellReply;
-    #[cfg(grid_table)]
-    use super::TableReply;
-    use super::{CutReply, LayoutReply};
+    use super::{CellReply, CutReply, LayoutReply, TableReply};
 
     unsafe extern "C" {
         /// A slice is a pointer and a length.
@@ -340,7 +339,6 @@ mod calls {
             left: usize,
         ) -> CutReply;
 
-        #[cfg(grid_table)]
         pub fn grid_table(
             lines: usize,
             bytes: usize,
@@ -376,7 +374,6 @@ mod calls {
             out_text_len: usize,
         ) -> TableReply;
 
-        #[cfg(grid_cell)]
         pub fn grid_cell(
             lines: usize,
             bytes: usize,

@@ -6,6 +6,7 @@ mod arena;
 mod check;
 mod cm;
 mod cuts;
+mod equations;
 mod given;
 mod html;
 mod library;
@@ -32,6 +33,7 @@ const USAGE: &str = "usage: compare self SEED N
        compare sheets SEED N
        compare tables SEED N
        compare lists DIR
+       compare equations SEED N DIR
        compare layout [SEED CALLS]
        compare cut [SEED CUTS]
        compare speed [WORD]
@@ -65,6 +67,10 @@ fn run(words: &[&str]) -> Option<io::Result<bool>> {
         ["speed", word] => Some(library::linked().map(|()| speed::run(word))),
         ["listing"] => Some(print::listing().map(|()| true)),
         ["cells"] => Some(print::cells().map(|()| true)),
+        ["equations", seed, n, folder] => {
+            let (seed, n) = (seed.parse().ok()?, n.parse().ok()?);
+            Some(equations::write(seed, n, Path::new(folder)).map(|()| true))
+        }
         [command, seed, n] => {
             let (seed, n) = (seed.parse().ok()?, n.parse().ok()?);
             match command {

@@ -66,14 +66,7 @@ pub fn cells() -> io::Result<()> {
 }
 
 fn table_cells(table: &Table) -> Vec<u8> {
-    let sizes = [
-        table.columns,
-        table.rows,
-        table.cells,
-        table.lines,
-        table.bytes,
-    ];
-    let mut out = row("table", &sizes).into_bytes();
+    let mut out = row("table", &table.sizes()).into_bytes();
     let mut lines = table.all_lines().into_iter();
     for p in &table.places {
         out.extend(row("cell", &[p.row, p.column, p.colspan, p.rowspan, p.lines]).bytes());
@@ -180,14 +173,7 @@ fn table_case(rng: &mut Rng, table: &Table, origin: usize) -> String {
             space.bytes = rng.between(0, 50);
         }
     }
-    let sizes = [
-        table.columns,
-        table.rows,
-        table.cells,
-        table.lines,
-        table.bytes,
-    ];
-    let mut out = row("table", &sizes);
+    let mut out = row("table", &table.sizes());
     out += &row("origin", &[origin]);
     out += &row("alignments", &table.alignments);
     out += &row("widths", &table.widths);

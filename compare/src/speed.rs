@@ -7,7 +7,7 @@ use std::hint::black_box;
 use std::time::{Duration, Instant};
 
 use crate::library::{
-    self, Drawing, HAS_TABLE, LayoutReply, MoreSpace, Output, Space, TableOutput, TableReply,
+    self, Drawing, LayoutReply, MoreSpace, Output, Space, TableOutput, TableReply,
 };
 use crate::paper::limits;
 use crate::paper::sheet::Sheet;
@@ -31,10 +31,6 @@ pub fn run(word: &str) -> bool {
         }
     }
     println!();
-    if !HAS_TABLE {
-        println!("(the archive is without the table call)");
-        return true;
-    }
     heading("Drawing, to its table");
     for (name, lines) in inputs::all() {
         if name.contains(word) && !name.starts_with("growth") {

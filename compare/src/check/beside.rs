@@ -2,6 +2,7 @@
 
 use super::Tally;
 use crate::given;
+use crate::make::ends::Numbers;
 use crate::make::{self, Rng, text};
 use crate::paper::cut::{self, Line};
 use crate::paper::layout::{BODY, NONE};
@@ -57,17 +58,7 @@ fn cut_any(rng: &mut Rng, tally: &mut Tally) {
 }
 
 fn find_and_remap(rng: &mut Rng, tally: &mut Tally) {
-    let (low, most) = rng.pick(&[(1, 2), (1, 6), (1, 12), (1, 65_535), (65_530, 65_537)]);
-    let least = if rng.once_in(10) { 0 } else { low };
-    let any_end = |rng: &mut Rng, lines: usize| {
-        let (a, b) = (rng.between(least, most), rng.between(least, most));
-        let (start, eol) = if rng.once_in(10) {
-            (a, b)
-        } else {
-            (a.min(b), a.max(b))
-        };
-        (rng.between(least.min(1), lines), start, eol)
-    };
+    let numbers = Numbers::new(rng);
     let mut register = vec![];
     let count = if rng.once_in(2_000) {
         limits::REGISTER + 1
@@ -75,7 +66,7 @@ fn find_and_remap(rng: &mut Rng, tally: &mut Tally) {
         rng.between(0, 8)
     };
     for _ in 0..count {
-        let end = any_end(rng, 2);
+        let end = numbers.end(rng, 2);
         let answer = ends::add(&register, end);
         tally.count("add", &answer);
         if let Ok(longer) = answer {
@@ -85,13 +76,9 @@ fn find_and_remap(rng: &mut Rng, tally: &mut Tally) {
             register.push((1, 1, 1));
         }
     }
-    // A register handed in may hold anything.
-    for _ in 0..rng.pick(&[0, 0, 0, 3]) {
-        let (start, eol) = (rng.between(0, most), rng.between(0, most));
-        register.push((rng.between(0, 2), start, eol));
-    }
+    register.extend(numbers.strays(rng));
     for _ in 0..4 {
-        let (line, column) = (rng.between(least.min(1), 3), rng.between(least, most));
+        let (line, column) = numbers.asked(rng);
         let answer = ends::find(&register, line, column);
         tally.count("find", &answer);
         if let Ok(paper) = answer {
@@ -102,8 +89,8 @@ fn find_and_remap(rng: &mut Rng, tally: &mut Tally) {
         }
     }
 
-    let fragments = [(7, rng.between(0, most)), (0, 3), (65_536, 0)];
-    let end = any_end(rng, 4);
+    let fragments = numbers.fragments(rng);
+    let end = numbers.end(rng, 4);
     let answer = ends::remap(end, &fragments);
     tally.count("remap", &answer);
     if let Ok(paper) = answer {
@@ -115,30 +102,7 @@ fn find_and_remap(rng: &mut Rng, tally: &mut Tally) {
 }
 
 fn pages(rng: &mut Rng, tally: &mut Tally) {
-    let (table, _) = make::tables::table(rng);
-    let mut page_table = PageTable {
-        columns: table.columns,
-        rows: table.rows,
-        cells: table.cells,
-        bytes: 0,
-        alignments: table.alignments,
-        widths: table.widths,
-        sections: table.sections,
-        lengths: vec![],
-        inner: vec![],
-        places: table.places,
-    };
-    for _ in 0..page_table.places.len() {
-        let length = if rng.once_in(200) {
-            rng.between(600, 33_000)
-        } else {
-            rng.between(0, 4)
-        };
-        let inner: Vec<u8> = (0..length).map(|_| rng.pick(b"a\n<>\x80\xFF")).collect();
-        page_table.bytes += length;
-        page_table.lengths.push(length);
-        page_table.inner.extend(inner);
-    }
+    let page_table = make::pages::table(rng);
     let widths = rng.once_in(2);
     let answer = page::page(&page_table, widths, usize::MAX);
     tally.count("page", &answer);

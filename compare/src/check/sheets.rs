@@ -3,10 +3,9 @@
 use super::{Tally, tables};
 use crate::given;
 use crate::make::{self, Rng};
-use crate::nodes::Sourcepos;
 use crate::paper::cut::{self, Line};
 use crate::paper::layout::{self, Layout, Space};
-use crate::paper::positions::{self, Position};
+use crate::paper::positions;
 use crate::paper::sheet::Sheet;
 use crate::paper::{limits, listing, redraw, set};
 use crate::parser::grid_table;
@@ -78,30 +77,16 @@ fn short_space(rng: &mut Rng, tally: &mut Tally, sheet: &Sheet, read: &Layout) {
     }
 }
 
-fn position(p: Sourcepos) -> Position {
-    (p.start.line, p.start.column, p.end.line, p.end.column)
-}
-
 /// Positions and cut lines, as `build_grid_table` has them.
 fn place(rng: &mut Rng, tally: &mut Tally, sheet: &Sheet, read: &Layout) {
-    let first = rng.below(3);
-    let numbers: Vec<usize> = (0..sheet.lines).map(|r| first + r).collect();
-    let most = rng.pick(&[0, 4, limits::REGISTER_NUMBER]);
-    let mut bytes: Vec<usize> = (0..sheet.lines).map(|_| rng.between(0, most)).collect();
-    if rng.once_in(50) {
-        bytes[sheet.lines - 1] = limits::REGISTER_NUMBER + 1;
-    }
+    let (numbers, bytes) = make::sheets::places(rng, sheet.lines);
     let answer = positions::positions(sheet, &numbers, &bytes, Space::ENOUGH);
     tally.count("positions", &answer);
     let Ok((_, paper)) = answer else {
         return;
     };
     let built = given::build(sheet, &numbers, &bytes).unwrap();
-    let rust = positions::Positions {
-        table: position(built.table),
-        rows: built.rows.into_iter().map(position).collect(),
-        cells: built.cells.iter().map(|c| position(c.0)).collect(),
-    };
+    let rust = given::positions(&built);
     if paper != rust {
         tally.differ("positions", &(sheet, &numbers, &bytes), &paper, &rust);
     }

@@ -2,7 +2,6 @@
 
 use super::Tally;
 use super::lent::{Inputs, WORKING, Working, fill, written};
-use super::tables::shorter;
 use crate::against::guarded::{Guarded, WIDE_GUARD};
 use crate::library::{self, CellReply};
 use crate::make::Rng;
@@ -84,14 +83,14 @@ impl Cells {
             self.call("cells", tally, sheet, asked, Ok(&cuts[cell]));
             if !cuts[cell].is_empty() {
                 let mut short = asked;
-                short.out = shorter(rng, cuts[cell].len());
+                short.out = rng.shorter(cuts[cell].len());
                 self.refused("cells: short outputs", tally, sheet, short, 12);
             }
         }
         if rng.once_in(4) {
             let mut short = asked;
             let i = rng.below(6);
-            short.space[i] = shorter(rng, WORKING[i]);
+            short.space[i] = rng.shorter(WORKING[i]);
             self.refused("cells: short working space", tally, sheet, short, 13);
         }
         let past = [cuts.len(), cuts.len() + 1, 1_024, usize::MAX];

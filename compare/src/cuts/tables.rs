@@ -168,8 +168,8 @@ impl Tables {
         if rng.once_in(8) {
             let mut short = lengths;
             match rng.below(7) {
-                6 => short.counts = shorter(rng, COUNT_SPACE),
-                i => short.space[i] = shorter(rng, WORKING[i]),
+                6 => short.counts = rng.shorter(COUNT_SPACE),
+                i => short.space[i] = rng.shorter(WORKING[i]),
             }
             let refused = Expected::refused(Refusal {
                 number: 13,
@@ -185,7 +185,7 @@ impl Tables {
                 continue;
             }
             let mut short = lengths;
-            short.output[i] = shorter(rng, need);
+            short.output[i] = rng.shorter(need);
             let refused = Expected::refused(Refusal {
                 number: 12,
                 place: 0,
@@ -283,14 +283,5 @@ impl Tables {
             return Some("table text");
         }
         None
-    }
-}
-
-/// Most often one less, or any less, or none.
-pub fn shorter(rng: &mut Rng, need: usize) -> usize {
-    match rng.below(8) {
-        0 => 0,
-        1 => rng.below(need),
-        _ => need - 1,
     }
 }

@@ -95,26 +95,8 @@ pub fn packed(text: &[u8]) -> String {
 
 /// Width and sizes, and the entries of the four arrays.
 fn numbers(layout: &Layout) -> String {
-    let inner = layout.cells.iter().map(|c| c.inner.len()).sum();
-    let mut all = vec![
-        layout.width,
-        layout.columns.len(),
-        layout.rows.len(),
-        layout.cells.len(),
-        inner,
-    ];
-    for c in &layout.columns {
-        all.extend([c.alignment, c.width]);
-    }
-    for r in &layout.rows {
-        all.extend([r.section, r.top, r.bottom]);
-    }
-    for c in &layout.cells {
-        all.extend([c.row, c.column, c.colspan, c.rowspan, c.left]);
-    }
-    for &(start, end) in layout.cells.iter().flat_map(|c| &c.inner) {
-        all.extend([start, end]);
-    }
+    let mut all = layout.sizes().to_vec();
+    all.extend(layout.arrays().concat());
     all.iter().map(|n| format!(" {n}")).collect()
 }
 

@@ -68,31 +68,10 @@ impl List {
     }
 }
 
-/// The five arrays.
-fn arrays(table: &Table) -> [Vec<usize>; 5] {
-    let columns = table.alignments.iter().zip(&table.widths);
-    let cells = table.places.iter();
-    [
-        columns.flat_map(|(&a, &w)| [a, w]).collect(),
-        table.sections.clone(),
-        cells
-            .flat_map(|p| [p.row, p.column, p.colspan, p.rowspan, p.lines])
-            .collect(),
-        table.lengths.clone(),
-        table.text.iter().map(|&b| usize::from(b)).collect(),
-    ]
-}
-
 /// Sizes, and the entries of the five arrays.
 fn numbers(table: &Table) -> String {
-    let mut all = vec![
-        table.columns,
-        table.rows,
-        table.cells,
-        table.lines,
-        table.bytes,
-    ];
-    all.extend(arrays(table).concat());
+    let mut all = table.sizes().to_vec();
+    all.extend(table.arrays().concat());
     all.iter().map(|n| format!(" {n}")).collect()
 }
 
@@ -109,7 +88,7 @@ fn answer(sheet: &Sheet, spaces: Spaces) -> Result<Table, Refusal> {
             let rust = given::table(sheet).unwrap();
             assert_eq!(rust, cut::table_of(sheet, &read));
             let short = |(array, &room): (&Vec<usize>, &usize)| array.len() > room;
-            if arrays(&rust).iter().zip(&spaces[WORKING..]).any(short) {
+            if rust.arrays().iter().zip(&spaces[WORKING..]).any(short) {
                 return refused(12);
             }
             Ok(rust)
@@ -166,7 +145,7 @@ fn outputs(list: &mut List) {
             continue;
         };
         let mut exact = ENOUGH;
-        for (room, array) in exact[WORKING..].iter_mut().zip(arrays(&table)) {
+        for (room, array) in exact[WORKING..].iter_mut().zip(table.arrays()) {
             *room = array.len();
         }
         list.table(sheet, exact);

@@ -1,6 +1,8 @@
 //! Inputs made from a seed: the same seed always gives the same inputs.
 
 pub mod edge;
+pub mod ends;
+pub mod pages;
 pub mod sheets;
 pub mod tables;
 pub mod text;
@@ -38,6 +40,15 @@ impl Rng {
     /// True once in `n` times.
     pub fn once_in(&mut self, n: usize) -> bool {
         self.below(n) == 0
+    }
+
+    /// A length below `need`: most often one less, or any less, or none.
+    pub fn shorter(&mut self, need: usize) -> usize {
+        match self.below(8) {
+            0 => 0,
+            1 => self.below(need),
+            _ => need - 1,
+        }
     }
 
     pub fn pick<T: Copy>(&mut self, from: &[T]) -> T {

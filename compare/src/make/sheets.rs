@@ -3,6 +3,7 @@
 
 use super::text::{self, Kind};
 use super::{Rng, edge, tiling};
+use crate::paper::limits;
 use crate::paper::sheet::Sheet;
 use crate::paper::table::Place;
 
@@ -24,6 +25,20 @@ pub fn sheet(rng: &mut Rng) -> Sheet {
         96..=98 => wrong_sizes(rng),
         _ => at_limit(rng),
     }
+}
+
+/// A number and a table byte for each line, at times past the limit.
+pub fn places(rng: &mut Rng, lines: usize) -> (Vec<usize>, Vec<usize>) {
+    let first = rng.below(3);
+    let numbers = (0..lines).map(|r| first + r).collect();
+    let most = rng.pick(&[0, 4, limits::REGISTER_NUMBER]);
+    let mut bytes: Vec<usize> = (0..lines).map(|_| rng.between(0, most)).collect();
+    if rng.once_in(50)
+        && let Some(last) = bytes.last_mut()
+    {
+        *last = limits::REGISTER_NUMBER + 1;
+    }
+    (numbers, bytes)
 }
 
 /// A drawing within the limits, most often a valid one.

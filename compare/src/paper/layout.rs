@@ -64,6 +64,36 @@ impl Space {
     };
 }
 
+impl Layout {
+    /// Width, and the numbers of columns, rows, cells and ranges.
+    pub fn sizes(&self) -> [usize; 5] {
+        [
+            self.width,
+            self.columns.len(),
+            self.rows.len(),
+            self.cells.len(),
+            self.cells.iter().map(|c| c.inner.len()).sum(),
+        ]
+    }
+
+    /// What the layout call writes: columns, rows, cells and ranges.
+    pub fn arrays(&self) -> [Vec<usize>; 4] {
+        let columns = self.columns.iter().flat_map(|c| [c.alignment, c.width]);
+        let rows = self.rows.iter().flat_map(|r| [r.section, r.top, r.bottom]);
+        let cells = self
+            .cells
+            .iter()
+            .flat_map(|c| [c.row, c.column, c.colspan, c.rowspan, c.left]);
+        let ranges = self.cells.iter().flat_map(|c| &c.inner);
+        [
+            columns.collect(),
+            rows.collect(),
+            cells.collect(),
+            ranges.flat_map(|&(start, end)| [start, end]).collect(),
+        ]
+    }
+}
+
 pub fn read(sheet: &Sheet, space: Space) -> Answer<Layout> {
     sheet.check_sizes()?;
     sheet.check_limits()?;

@@ -33,7 +33,7 @@ pub struct Place {
 /// The text as characters, so that a printed difference can be read.
 impl fmt::Debug for Table {
     fn fmt(&self, f: &mut fmt::Formatter<'_>) -> fmt::Result {
-        let sizes = [self.columns, self.rows, self.cells, self.lines, self.bytes];
+        let sizes = self.sizes();
         let grid = (&self.alignments, &self.widths, &self.sections, &self.places);
         let lines = &self.lengths;
         let text = self.text.escape_ascii();
@@ -52,6 +52,26 @@ impl Table {
             self.lengths.push(line.len());
             self.text.extend(line);
         }
+    }
+
+    /// The numbers of columns, rows, cells, lines and bytes, as handed in.
+    pub fn sizes(&self) -> [usize; 5] {
+        [self.columns, self.rows, self.cells, self.lines, self.bytes]
+    }
+
+    /// The flat form: columns, sections, cells, line lengths and text.
+    pub fn arrays(&self) -> [Vec<usize>; 5] {
+        let columns = self.alignments.iter().zip(&self.widths);
+        let cells = self.places.iter();
+        [
+            columns.flat_map(|(&a, &w)| [a, w]).collect(),
+            self.sections.clone(),
+            cells
+                .flat_map(|p| [p.row, p.column, p.colspan, p.rowspan, p.lines])
+                .collect(),
+            self.lengths.clone(),
+            self.text.iter().map(|&b| usize::from(b)).collect(),
+        ]
     }
 
     /// All lines in array order, once the sizes are known to agree.

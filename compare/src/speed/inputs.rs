@@ -20,6 +20,7 @@ pub fn all() -> Vec<(String, Lines)> {
     add("one long search: false corners", combs());
     add("every line a separator", separators());
     add("two-column characters, full size", wide_text());
+    add("accented letters, full size", accents());
     add("marks up to 512 bytes a line", marks());
     add("blanks up to 512 bytes a line", blanks());
     add("late refusal: 5 on the last line", late_width());
@@ -182,6 +183,16 @@ fn wide_text() -> Lines {
     let mut text = vec![rule(&[126], "-")];
     for _ in 0..80 {
         text.push(format!("|{}|", "\u{4E2D}".repeat(63)));
+    }
+    text.push(rule(&[126], "-"));
+    lines_of(text)
+}
+
+/// 128 lines by 128 columns; an inner line has 254 bytes.
+fn accents() -> Lines {
+    let mut text = vec![rule(&[126], "-")];
+    for _ in 0..126 {
+        text.push(format!("|{}|", "\u{E9}".repeat(126)));
     }
     text.push(rule(&[126], "-"));
     lines_of(text)

@@ -1,4 +1,5 @@
-// Standard input, as far as a buffer holds it.
+// What the programs share: a sheet from standard input, as far as a buffer holds it, a result to
+// standard output, and a line on standard error where one of them fails.
 ghost use Rattle.input.specs.Within.{Within};
 
 pub enum Input {
@@ -23,4 +24,37 @@ pub fn read_input(buffer: &mut [u8]) -> Input
         n += more;
     }
     Input::Bytes(n)
+}
+
+// The sheet that the program of this name works on. Where there is none it has said why.
+pub fn read_sheet(name: &[u8], buffer: &mut [u8]) -> Input
+    ensures { λ r. ⌜ Within (now (buffer .exit)) r ⌝ }
+{
+    // Whoever names a file must not be left waiting for standard input.
+    if os::arg_count() > 1 {
+        say(b"usage: ", name, b" < SHEET\n");
+        return Input::Failed;
+    }
+    let input = read_input(buffer);
+    match input {
+        Input::Failed => {
+            say(b"", name, b": input cannot be read\n");
+        }
+        Input::Bytes(_) => {}
+    }
+    input
+}
+
+// Writes the result of the program of this name, or says that it cannot be written.
+pub fn write_result(name: &[u8], result: &[u8]) {
+    if !io::write_all(libc::STDOUT_FILENO, result) {
+        say(b"", name, b": output cannot be written\n");
+    }
+}
+
+// A line about the program of this name.
+fn say(before: &[u8], name: &[u8], after: &[u8]) {
+    io::write_all(libc::STDERR_FILENO, before);
+    io::write_all(libc::STDERR_FILENO, name);
+    io::write_all(libc::STDERR_FILENO, after);
 }

@@ -4,23 +4,23 @@ use borrow.Author.Needs.{needs}
 use Rattle.cells.proofs.main.Statement.{statement}
 use Rattle.cells.proofs.main.Tie as tie
 
-slice-aggregate-read-input : tie.Need-slice-aggregate-read-input
-slice-aggregate-read-input c = search needs
+slice-aggregate-read-sheet : tie.Need-slice-aggregate-read-sheet
+slice-aggregate-read-sheet c = search needs
 
-read-input-requires : tie.Need-read-input-requires
-read-input-requires c κs = search needs
+slice-aggregate-read-sheet-2 : tie.Need-slice-aggregate-read-sheet-2
+slice-aggregate-read-sheet-2 c = search needs
+
+read-sheet-requires : tie.Need-read-sheet-requires
+read-sheet-requires c κs = search needs
+
+enum-known-n : tie.Need-enum-known-n
+enum-known-n c = search needs
 
 enum-told : tie.Need-enum-told
 enum-told c = search needs
 
-slice-aggregate-write-all : tie.Need-slice-aggregate-write-all
-slice-aggregate-write-all c = search needs
-
-write-all-requires : tie.Need-write-all-requires
-write-all-requires c κs = search needs
-
-enum-known-n : tie.Need-enum-known-n
-enum-known-n c = search needs
+returns : tie.Need-returns
+returns c = search needs
 
 sub-list-cells : tie.Need-sub-list-cells
 sub-list-cells c = search needs
@@ -37,20 +37,20 @@ slice-aggregate-list-cells c = search needs
 list-cells-requires : tie.Need-list-cells-requires
 list-cells-requires c κs = search needs
 
-sub-write-all : tie.Need-sub-write-all
-sub-write-all c = search needs
+slice-aggregate-write-result : tie.Need-slice-aggregate-write-result
+slice-aggregate-write-result c = search needs
 
-part-write-all-start : tie.Need-part-write-all-start
-part-write-all-start c = search needs
+sub-write-result : tie.Need-sub-write-result
+sub-write-result c = search needs
 
-part-write-all-end : tie.Need-part-write-all-end
-part-write-all-end c = search needs
+part-write-result-start : tie.Need-part-write-result-start
+part-write-result-start c = search needs
 
-write-all-requires-2 : tie.Need-write-all-requires-2
-write-all-requires-2 c κs = search needs
+part-write-result-end : tie.Need-part-write-result-end
+part-write-result-end c = search needs
 
-returns : tie.Need-returns
-returns c = search needs
+write-result-requires : tie.Need-write-result-requires
+write-result-requires c κs = search needs
 
 returns-2 : tie.Need-returns-2
 returns-2 c = search needs
@@ -59,20 +59,20 @@ pub main-spec : {M : Type 1} → statement M
 main-spec =
     tie.close
     (tie.spec
-    slice-aggregate-read-input
-    read-input-requires
-    enum-told
-    slice-aggregate-write-all
-    write-all-requires
+    slice-aggregate-read-sheet
+    slice-aggregate-read-sheet-2
+    read-sheet-requires
     enum-known-n
+    enum-told
+    returns
     sub-list-cells
     part-list-cells-start
     part-list-cells-end
     slice-aggregate-list-cells
     list-cells-requires
-    sub-write-all
-    part-write-all-start
-    part-write-all-end
-    write-all-requires-2
-    returns
+    slice-aggregate-write-result
+    sub-write-result
+    part-write-result-start
+    part-write-result-end
+    write-result-requires
     returns-2)

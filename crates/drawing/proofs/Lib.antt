@@ -1,3 +1,33 @@
+-- Computed examples of the definitions.
 pub mod Examples
+-- A table that is read keeps redraw's rules and limits.
 pub mod ReadRules
 pub mod ReadLimits
+-- Sizes: columns and their measure, widths and heights, where borders stand.
+pub mod MeasureLaws
+pub mod FitLaws
+pub mod OffsetLaws
+-- The grid rules and the other checks, as facts of a table.
+pub mod KeptLaws
+pub mod SectionOrder
+-- A canvas: boxes that hold each square once, a drawn line from border to border, which lines are rules.
+pub mod BoxLaws
+pub mod RowLaws
+pub mod RuleRows
+-- The canvas of a table that keeps the rules.
+pub mod CanvasLaws
+pub mod LinedLaws
+pub mod CheckLaws
+pub mod SearchLaws
+-- The grid that reading makes of a drawing: which rectangles are traced in it, what is cut from it.
+pub mod GlyphRows
+pub mod FirstBoxes
+pub mod CutBoxes
+-- The table that is read back from a drawing.
+pub mod CellsBack
+pub mod SectionsBack
+pub mod AlignmentsBack
+pub mod SameDrawn
+pub mod ReadsBack
+pub mod WidthsBack
+pub mod SameBack

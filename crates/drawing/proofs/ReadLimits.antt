@@ -1,16 +1,16 @@
 -- A table that is read keeps every limit and the set of characters, and has no Foot without a Head.
--- Assumes nothing.
 use Prim.Native.Nat.{ℕ, _-_, _≤_, _<_}
 use mathlib.Core.Path.{_≡_, refl, sym, ap, subst, _∙_}
 use mathlib.Core.Bool.{Bool, true, false, not, _&&_}
 use mathlib.Core.Option.{none}
-use mathlib.Core.List.{List, [], _∷_, map, flatMap, List·Memᴰ, Memᴰ·of-map}
+use mathlib.Core.List.{List, [], map, flatMap, List·Memᴰ, Memᴰ·of-map}
 use native.Mathlib.Omega.{arith}
 use lib.Dec.{ltb}
 use lib.ListN.{length, getD, length-map}
 use borrow.Author.Tests.{le-ltb, ltb-true}
-use Rattle.seq.specs.Lists.{sum, any, count, isEmpty}
+use Rattle.seq.specs.Lists.{sum, any, count}
 use Rattle.seq.proofs.Tests.{true-not-false, or-none}
+use Rattle.seq.proofs.ListsLaws.{length-some}
 use Rattle.seq.proofs.Searches.{any-mem, mem-any, none-any, count-few, count-none}
 use Rattle.seq.proofs.Rising.{Position, position}
 use Rattle.seq.proofs.FlatMaps.{mem-flatMap, flatMap-map, length-flatMap-sum}
@@ -42,10 +42,6 @@ use Rattle.drawing.specs.RedrawCall.{DrawingArrays, redrawSpace, drawing
 use Rattle.drawing.specs.Plain.{canvasOf, canvasLines}
 use Rattle.drawing.proofs.ReadRules.{table, cell, table-cells, table-columns, table-rows, table-sections, section-of, stands, read-keeps}
 
-some-there : {A : Type 0} (l : List A) → 0 < length l → isEmpty l ≡ false
-some-there [] h = absurd (omega arith)
-some-there (a ∷ l) h = refl
-
 is-foot : (s : GridTableSection) → isFoot s ≡ true → s ≡ Foot
 is-foot Head e = absurd (true-not-false (sym e))
 is-foot Body e = absurd (true-not-false (sym e))
@@ -72,9 +68,9 @@ module _ (lines : List Line) (rs : List Rect) (checks : Passed lines rs) where
       let p = stands lines g rs cover m in
       let rects : 0 < length rs = omega (arith, cover .once 0 0 (cover .tall) (cover .wide), count-few (holds 0 0) rs) in
       or-none
-      (or-none (some-there (t .columns) (omega (arith, table-columns lines g rs cover, p .wide, p .right .inside)))
-      (some-there (t .sections) (omega (arith, table-rows lines g rs cover, p .tall, p .bottom .inside))))
-      (some-there (t .cells) (omega (arith, ap length (table-cells lines g rs cover), length-map rs (cell lines g rs cover))))
+      (or-none (length-some (t .columns) (omega (arith, table-columns lines g rs cover, p .wide, p .right .inside)))
+      (length-some (t .sections) (omega (arith, table-rows lines g rs cover, p .tall, p .bottom .inside))))
+      (length-some (t .cells) (omega (arith, ap length (table-cells lines g rs cover), length-map rs (cell lines g rs cover))))
 
   -- ---- 2, of the shape
   column-narrow : (c : GridTableColumn) → List·Memᴰ c (t .columns) → ltb maxWidth (c .width) ≡ false

@@ -16,7 +16,8 @@ use Rattle.grid.specs.Same.{drawnLines}
 use Rattle.grid.specs.declared.TableAlignment.{TableAlignment}
 use Rattle.grid.specs.declared.TableAlignment.the-variants.{None, Left, Right, Center}
 use Rattle.drawing.specs.GridRules.{isHead, isFoot}
-use Rattle.drawing.specs.Sizes.{columnsFrom, widths, heights, offsets}
+use Rattle.text.specs.Columns.{columnsFrom}
+use Rattle.drawing.specs.Sizes.{widths, heights, offsets}
 
 -- a cell as drawn: its borders, and its lines, "trimmed and empty last ones dropped"
 pub record Box : Type 0 where

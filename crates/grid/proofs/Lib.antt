@@ -19,3 +19,8 @@ pub mod SquareSums
 pub mod CutLaws
 pub mod CellLaws
 pub mod CellTexts
+pub mod AnswerLaws
+pub mod SpanSlotLaws
+pub mod TileLaws
+pub mod DrawnLineLaws
+pub mod FlatDrawingLaws

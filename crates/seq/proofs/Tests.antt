@@ -10,6 +10,21 @@ use borrow.Author.Tests.{leb-true, leb-false, ltb-true, eqb-true, lt-ltb, eq-eqb
 pub true-not-false : true ≡ false → ⊥
 true-not-false e = let z : _≡_ {A = ℕ} 0 1 = cc in omega arith
 
+-- a test passes or fails
+pub bool-cases : (t : Bool) → (t ≡ true) ⊎ (t ≡ false)
+bool-cases true = inl refl
+bool-cases false = inr refl
+
+-- two tests that pass together are the same
+pub bool-same : (s t : Bool) → (s ≡ true → t ≡ true) → (t ≡ true → s ≡ true) → s ≡ t
+bool-same true t there back = sym (there refl)
+bool-same false true there back = back refl
+bool-same false false there back = refl
+
+pub and-false : (t : Bool) → t && false ≡ false
+and-false true = refl
+and-false false = refl
+
 pub both-true : (t u : Bool) → t && u ≡ true → (t ≡ true) × (u ≡ true)
 both-true true u e = (refl, e)
 both-true false u e = absurd (true-not-false (sym e))

@@ -27,14 +27,14 @@ use Rattle.grid.proofs.SpanSlotLaws.{glyphOf-plus}
 use Rattle.drawing.specs.Plain.{Canvas, canvasAt, canvasOf, canvasWidth, cornerAt, alignmentRow, nextCorner, hasLeftColon, hasRightColon, hasCorner, leftColon, rightColon}
 use Rattle.drawing.specs.Redraw.{insideSegment, colonsMisplaced, splits}
 use Rattle.seq.proofs.Finds.{FirstIn}
-use Rattle.drawing.proofs.BoxLaws.{border, classify}
+use Rattle.drawing.proofs.BoxLaws.{border, border-or-inside}
 use Rattle.drawing.proofs.RowLaws.{edgeByte}
-use Rattle.drawing.proofs.RuleRows.{colonIn, Lined, flat-clear, byte-plus, byte-other, fillOf, fill-not-plus, plus-corner, no-twin}
-use Rattle.drawing.proofs.CanvasLaws.{Fine, alignmentIn, xAt, cellBox, x-same, frames}
-use Rattle.drawing.proofs.LinedLaws.{al-low, al-clear, room, next, next-is, far, Which, atLeft, atRight, which-wide, colon-from, from-colon, lined}
-use Rattle.drawing.proofs.GlyphRows.{trimmed-line, border-at}
-use Rattle.drawing.proofs.CellsBack.{lines, g, column-lines, xs-long}
-use Rattle.drawing.proofs.SectionsBack.{alignment-line}
+use Rattle.drawing.proofs.RuleRows.{colonIn, Lined, flat-clear, edgeByte-plus, edgeByte-other, fillOf, fillOf-other, edgeByte-corner, corners-apart}
+use Rattle.drawing.proofs.CanvasLaws.{Fine, alignmentIn, xAt, cellBox, xAt-same, frames}
+use Rattle.drawing.proofs.LinedLaws.{alignmentRow-low, alignmentRow-clear, xAt-room, cornerAfter, nextCorner-is, nextCorner-far, ColonOf, atLeft, atRight, colon-wide, colon-from, from-colon, canvas-lined}
+use Rattle.drawing.proofs.GlyphRows.{trimmedAt-flat, slotAt-border}
+use Rattle.drawing.proofs.CellsBack.{lines, g, columnLines-back, xs-length}
+use Rattle.drawing.proofs.SectionsBack.{alignmentLine-back}
 
 by-colons : (a : TableAlignment) → alignmentOf (hasLeftColon a) (hasRightColon a) ≡ a
 by-colons None = refl
@@ -59,103 +59,103 @@ module _ {t : Table} (F : Fine t) (o : ℕ) where
   β = edgeByte (canvasOf t) (alignmentRow (canvasOf t))
 
   L : Lined v
-  L = lined F
+  L = canvas-lined F
 
   byte-colon : (z : ℕ) → z < W → cornerAt v A z ≡ false → eqb (β z) colon ≡ colonIn v z
-  byte-colon z w h = ap (λ (b : ℕ). eqb b colon) (byte-other L A z (al-low F) (al-clear F) w h) ∙ rw (eq-eqb A A refl) (go (colonIn v z)) where
+  byte-colon z w h = ap (λ (b : ℕ). eqb b colon) (edgeByte-other L A z (alignmentRow-low F) (alignmentRow-clear F) w h) ∙ rw (eq-eqb A A refl) (go (colonIn v z)) where
     go : (b : Bool) → eqb (cond b colon (fillOf L A)) colon ≡ b
     go true = refl
-    go false = ne-eqb _ _ (fill-not-plus L A .1)
+    go false = ne-eqb _ _ (fillOf-other L A .1)
 
   -- a corner strictly between a column line and the next corner behind it
-  between-none : (d : ℕ) (u : d < C) (w : ℕ) → xAt t d < w → w < next F d u .at → cornerAt v A w ≡ true → ⊥
-  between-none d u w i j k = true-not-false (sym k ∙ next F d u .before w (omega arith) j)
+  between-none : (d : ℕ) (u : d < C) (w : ℕ) → xAt t d < w → w < cornerAfter F d u .at → cornerAt v A w ≡ true → ⊥
+  between-none d u w i j k = true-not-false (sym k ∙ cornerAfter F d u .before w (omega arith) j)
 
   module _ (c : ℕ) (u : c < C) (p : cornerAt v A (xAt t c) ≡ true) where
     abbrev x : ℕ
     x = xAt t c
 
     abbrev N : FirstIn (cornerAt v A) (xAt t c + 1) (canvasWidth v - (xAt t c + 1))
-    N = next F c u
+    N = cornerAfter F c u
 
     two-on : x + 1 < N .at
     two-on =
-        ⊎-elim (λ (q : x + 1 ≡ N .at). absurd (true-not-false (sym (N .found) ∙ subst (λ (z : ℕ). cornerAt v A z ≡ false) q (no-twin L A x p)))) (λ q. q) (eq-or-lt-of-le (N .low))
+        ⊎-elim (λ (q : x + 1 ≡ N .at). absurd (true-not-false (sym (N .found) ∙ subst (λ (z : ℕ). cornerAt v A z ≡ false) q (corners-apart L A x p)))) (λ q. q) (eq-or-lt-of-le (N .low))
 
     n-low : N .at < W
-    n-low = omega (arith, N .high, room F c u)
+    n-low = omega (arith, N .high, xAt-room F c u)
 
     left-is : eqb (β (x + 1)) colon ≡ hasLeftColon (alignmentIn t c)
     left-is =
-        byte-colon (x + 1) (room F c u) (no-twin L A x p)
+        byte-colon (x + 1) (xAt-room F c u) (corners-apart L A x p)
         ∙ bool-same _ _ (λ k. let f = colon-from F (x + 1) k in go (f .column) (f .inside) (f .corner) (f .which)) (λ k. from-colon F (x + 1) c u p (atLeft k refl)) where
-          go : (d : ℕ) → d < C → cornerAt v A (xAt t d) ≡ true → Which F (x + 1) d → hasLeftColon (alignmentIn t c) ≡ true
-          go d w q (atLeft l e) = let z : c ≡ d = x-same F c d (omega arith) (omega arith) (omega arith) in rw z l
+          go : (d : ℕ) → d < C → cornerAt v A (xAt t d) ≡ true → ColonOf F (x + 1) d → hasLeftColon (alignmentIn t c) ≡ true
+          go d w q (atLeft l e) = let z : c ≡ d = xAt-same F c d (omega arith) (omega arith) (omega arith) in rw z l
           go d w q (atRight r e) =
-              let k : Which F (x + 1) d = atRight r e in
-              absurd (between-none d w x (omega (arith, far F d w (which-wide F k), next-is F d w)) (omega (arith, next-is F d w)) p)
+              let k : ColonOf F (x + 1) d = atRight r e in
+              absurd (between-none d w x (omega (arith, nextCorner-far F d w (colon-wide F k), nextCorner-is F d w)) (omega (arith, nextCorner-is F d w)) p)
 
     right-is : eqb (β (N .at - 1)) colon ≡ hasRightColon (alignmentIn t c)
     right-is =
         byte-colon (N .at - 1) (omega (arith, n-low)) (N .before (N .at - 1) (omega (arith, two-on)) (omega (arith, two-on)))
         ∙ bool-same _ _ (λ k. let f = colon-from F (N .at - 1) k in go (f .column) (f .inside) (f .corner) (f .which))
-        (λ k. from-colon F (N .at - 1) c u p (atRight k (omega (arith, two-on, next-is F c u)))) where
-          go : (d : ℕ) → d < C → cornerAt v A (xAt t d) ≡ true → Which F (N .at - 1) d → hasRightColon (alignmentIn t c) ≡ true
+        (λ k. from-colon F (N .at - 1) c u p (atRight k (omega (arith, two-on, nextCorner-is F c u)))) where
+          go : (d : ℕ) → d < C → cornerAt v A (xAt t d) ≡ true → ColonOf F (N .at - 1) d → hasRightColon (alignmentIn t c) ≡ true
           go d w q (atLeft l e) =
-              let k : Which F (N .at - 1) d = atLeft l e in
-              absurd (between-none d w (N .at) (omega (arith, two-on)) (omega (arith, two-on, far F d w (which-wide F k))) (N .found))
+              let k : ColonOf F (N .at - 1) d = atLeft l e in
+              absurd (between-none d w (N .at) (omega (arith, two-on)) (omega (arith, two-on, nextCorner-far F d w (colon-wide F k))) (N .found))
           go d w q (atRight r e) =
-              let i = next-is F d w in
-              let j = next F d w .low in
+              let i = nextCorner-is F d w in
+              let j = cornerAfter F d w .low in
               let z : c ≡ d =
-              x-same F c d (omega arith) (omega arith)
+              xAt-same F c d (omega arith) (omega arith)
               (⊎-elim (λ k. ⊎-elim (λ (y : x ≡ xAt t d). y) (λ y. absurd (between-none c u (xAt t d) y (omega (arith, two-on)) q)) (eq-or-lt-of-le k))
               (λ k. absurd (between-none d w x k (omega (arith, two-on)) p)) (le-or-lt x (xAt t d))) in
               rw z r
 
   -- ---- the line as reading sees it
   line-is : trimmedAt (lines F o) A ≡ map β (upTo W)
-  line-is = trimmed-line L o A (al-low F) ∙ flat-clear L o A (al-low F) (al-clear F) W 0 (omega arith)
+  line-is = trimmedAt-flat L o A (alignmentRow-low F) ∙ flat-clear L o A (alignmentRow-low F) (alignmentRow-clear F) W 0 (omega arith)
 
   all-border : (x : ℕ) → x < W → border v A x ≡ true
-  all-border x w = ⊎-elim (λ h. h) (λ k. absurd (al-clear F (k .0) (k .1) (k .2 .top) (k .2 .bottom))) (classify (L .written .tiled) A x (al-low F) w)
+  all-border x w = ⊎-elim (λ h. h) (λ k. absurd (alignmentRow-clear F (k .0) (k .1) (k .2 .top) (k .2 .bottom))) (border-or-inside (L .written .tiled) A x (alignmentRow-low F) w)
 
   slot-is : (x : ℕ) → x < W → byteAt (g F o) A x ≡ x
   slot-is x w =
-      ap (λ (s : Slot). s .byte) (border-at L o A x (al-low F) w (all-border x w))
-      ∙ ap length (flat-clear L o A (al-low F) (al-clear F) x 0 (omega arith)) ∙ length-map (range 0 x) β ∙ length-range 0 x
+      ap (λ (s : Slot). s .byte) (slotAt-border L o A x (alignmentRow-low F) w (all-border x w))
+      ∙ ap length (flat-clear L o A (alignmentRow-low F) (alignmentRow-clear F) x 0 (omega arith)) ∙ length-map (range 0 x) β ∙ length-range 0 x
 
   plus-is : (x : ℕ) → x < W → plusAt (g F o) A x ≡ cornerAt v A x
   plus-is x w =
-      ap (λ (s : Slot). isPlus (s .glyph)) (border-at L o A x (al-low F) w (all-border x w)) ∙ glyphOf-plus _ (β x)
-      ∙ bool-same (eqb (β x) plus) (cornerAt v A x) (λ e. plus-corner L A x (eqb-true _ _ e)) (λ e. eq-eqb _ _ (byte-plus L A x e))
+      ap (λ (s : Slot). isPlus (s .glyph)) (slotAt-border L o A x (alignmentRow-low F) w (all-border x w)) ∙ glyphOf-plus _ (β x)
+      ∙ bool-same (eqb (β x) plus) (cornerAt v A x) (λ e. edgeByte-corner L A x (eqb-true _ _ e)) (λ e. eq-eqb _ _ (edgeByte-plus L A x e))
 
-  segment-is : (c : ℕ) (u : c < C) → toPlus (drop (xAt t c + 1) (map β (upTo W))) ≡ map β (range (xAt t c + 1) (next F c u .at - (xAt t c + 1)))
+  segment-is : (c : ℕ) (u : c < C) → toPlus (drop (xAt t c + 1) (map β (upTo W))) ≡ map β (range (xAt t c + 1) (cornerAfter F c u .at - (xAt t c + 1)))
   segment-is c u =
-      let k = next F c u in
-      ap toPlus (rest-of-range β (xAt t c + 1) W (omega (arith, room F c u)))
-      ∙ toPlus-of-bytes β (W - (xAt t c + 1)) (xAt t c + 1) (k .at) (k .low) (k .high) (λ i low high e. true-not-false (sym (plus-corner L A i e) ∙ k .before i low high)) (byte-plus L A (k .at) (k .found))
+      let k = cornerAfter F c u in
+      ap toPlus (rest-of-range β (xAt t c + 1) W (omega (arith, xAt-room F c u)))
+      ∙ toPlus-of-bytes β (W - (xAt t c + 1)) (xAt t c + 1) (k .at) (k .low) (k .high) (λ i low high e. true-not-false (sym (edgeByte-corner L A i e) ∙ k .before i low high)) (edgeByte-plus L A (k .at) (k .found))
 
-  aligned-back : (c : ℕ) (u : c < C) → cornerAt v A (xAt t c) ≡ true → segmentAlignment (map β (range (xAt t c + 1) (next F c u .at - (xAt t c + 1)))) ≡ alignmentIn t c
+  aligned-back : (c : ℕ) (u : c < C) → cornerAt v A (xAt t c) ≡ true → segmentAlignment (map β (range (xAt t c + 1) (cornerAfter F c u .at - (xAt t c + 1)))) ≡ alignmentIn t c
   unfolding range
   aligned-back c u p =
-      let k = next F c u in
+      let k = cornerAfter F c u in
       let e : k .at - (xAt t c + 1) ≡ suc (k .at - (xAt t c + 2)) = omega (arith, two-on c u p) in
       let last : lastD (map β (range (xAt t c + 1) (suc (k .at - (xAt t c + 2))))) 0 ≡ β (k .at - 1) = last-of-range β (k .at - (xAt t c + 2)) (xAt t c + 1) 0 ∙ ap β (omega (arith, two-on c u p)) in
       ap (λ (m : ℕ). segmentAlignment (map β (range (xAt t c + 1) m))) e
       ∙ ap (λ (b : ℕ). alignmentOf (eqb (β (xAt t c + 1)) colon) (eqb b colon)) last
       ∙ ap₂ alignmentOf (left-is c u p) (right-is c u p) ∙ by-colons (alignmentIn t c)
 
-  read-alignment : any (eqb 0) (v .rules) ≡ false → (c : ℕ) → c < C → alignmentAt (lines F o) (g F o) (xAt t c) ≡ cond (cornerAt v A (xAt t c)) (alignmentIn t c) None
+  alignmentAt-back : any (eqb 0) (v .rules) ≡ false → (c : ℕ) → c < C → alignmentAt (lines F o) (g F o) (xAt t c) ≡ cond (cornerAt v A (xAt t c)) (alignmentIn t c) None
   unfolding alignmentAt
-  read-alignment z c u =
-      ap (λ (y : ℕ). cond (plusAt (g F o) y (xAt t c)) (segmentAlignment (toPlus (drop (byteAt (g F o) y (xAt t c) + 1) (trimmedAt (lines F o) y)))) None) (alignment-line F o z)
-      ∙ ap (λ (b : Bool). cond b (segmentAlignment (toPlus (drop (byteAt (g F o) A (xAt t c) + 1) (trimmedAt (lines F o) A)))) None) (plus-is (xAt t c) (omega (arith, room F c u)))
+  alignmentAt-back z c u =
+      ap (λ (y : ℕ). cond (plusAt (g F o) y (xAt t c)) (segmentAlignment (toPlus (drop (byteAt (g F o) y (xAt t c) + 1) (trimmedAt (lines F o) y)))) None) (alignmentLine-back F o z)
+      ∙ ap (λ (b : Bool). cond b (segmentAlignment (toPlus (drop (byteAt (g F o) A (xAt t c) + 1) (trimmedAt (lines F o) A)))) None) (plus-is (xAt t c) (omega (arith, xAt-room F c u)))
       ∙ go (cornerAt v A (xAt t c)) refl where
         go : (b : Bool) → cornerAt v A (xAt t c) ≡ b
             → cond b (segmentAlignment (toPlus (drop (byteAt (g F o) A (xAt t c) + 1) (trimmedAt (lines F o) A)))) None ≡ cond b (alignmentIn t c) None
         go true p =
-            ap (λ (k : ℕ). segmentAlignment (toPlus (drop (k + 1) (trimmedAt (lines F o) A)))) (slot-is (xAt t c) (omega (arith, room F c u)))
+            ap (λ (k : ℕ). segmentAlignment (toPlus (drop (k + 1) (trimmedAt (lines F o) A)))) (slot-is (xAt t c) (omega (arith, xAt-room F c u)))
             ∙ ap (λ (l : List ℕ). segmentAlignment (toPlus (drop (xAt t c + 1) l))) line-is
             ∙ ap segmentAlignment (segment-is c u) ∙ aligned-back c u p
         go false p = refl
@@ -166,8 +166,8 @@ module _ {t : Table} (F : Fine t) (o : ℕ) where
 
   right-end : (c : ℕ) → c < C → cornerAt v A (nextCorner v A (xAt t c) - 1 + 1) ≡ true
   right-end c u =
-      let k = next F c u in
-      let e : nextCorner v A (xAt t c) - 1 + 1 ≡ k .at = omega (arith, next-is F c u, k .low) in
+      let k = cornerAfter F c u in
+      let e : nextCorner v A (xAt t c) - 1 + 1 ≡ k .at = omega (arith, nextCorner-is F c u, k .low) in
       rw e (k .found)
 
   left-outside : (c : ℕ) → c < C → cornerAt v A (xAt t c) ≡ true → insideSegment v (xAt t c + 1) ≡ false
@@ -183,8 +183,8 @@ module _ {t : Table} (F : Fine t) (o : ℕ) where
   none-inside c u p = (left-outside c u p, right-outside c u)
 
   -- so refusal 10 comes from missing corners alone
-  pub misplaced-is : (c : ℕ) → c < C → (a : TableAlignment) → colonsMisplaced v c a ≡ (hasLeftColon a || hasRightColon a) && not (hasCorner v c)
-  misplaced-is c u a = go (hasCorner v c) (insideSegment v (leftColon v c)) (insideSegment v (rightColon v c)) (λ p. none-inside c u p .0) (λ p. none-inside c u p .1) refl where
+  pub colonsMisplaced-is : (c : ℕ) → c < C → (a : TableAlignment) → colonsMisplaced v c a ≡ (hasLeftColon a || hasRightColon a) && not (hasCorner v c)
+  colonsMisplaced-is c u a = go (hasCorner v c) (insideSegment v (leftColon v c)) (insideSegment v (rightColon v c)) (λ p. none-inside c u p .0) (λ p. none-inside c u p .1) refl where
     go : (b l r : Bool) → (hasCorner v c ≡ true → l ≡ false) → (hasCorner v c ≡ true → r ≡ false) → hasCorner v c ≡ b
         → (hasLeftColon a || hasRightColon a) && (not b || hasLeftColon a && l || hasRightColon a && r) ≡ (hasLeftColon a || hasRightColon a) && not b
     go false l r fl fr e = refl
@@ -198,17 +198,17 @@ module _ {t : Table} (F : Fine t) (o : ℕ) where
     abbrev read : List GridTableColumn
     read = columnsRead (lines F o) (g F o) (frames F)
 
-    pub columns-count : length read ≡ C
+    pub columns-length : length read ≡ C
     unfolding columnsRead
-    columns-count =
+    columns-length =
         length-map (between (columnLines (g F o) fs)) _ ∙ length-between (columnLines (g F o) fs)
-        ∙ omega (arith, ap length (column-lines F o unsplit), xs-long F o unsplit)
+        ∙ omega (arith, ap length (columnLines-back F o unsplit), xs-length F o unsplit)
 
-    pub column-back : any (eqb 0) (v .rules) ≡ false → (c : ℕ) → c < C → (d : GridTableColumn) → getD read c d .alignment ≡ cond (cornerAt v A (xAt t c)) (alignmentIn t c) None
+    pub alignment-back : any (eqb 0) (v .rules) ≡ false → (c : ℕ) → c < C → (d : GridTableColumn) → getD read c d .alignment ≡ cond (cornerAt v A (xAt t c)) (alignmentIn t c) None
     unfolding columnsRead
-    column-back z c u d =
+    alignment-back z c u d =
         let nowhere : Between = record { from = 0; to = 0 } in
-        let long : length (columnLines (g F o) fs) ≡ suc C = ap length (column-lines F o unsplit) ∙ xs-long F o unsplit in
+        let long : length (columnLines (g F o) fs) ≡ suc C = ap length (columnLines-back F o unsplit) ∙ xs-length F o unsplit in
         ap (λ (k : GridTableColumn). k .alignment) (getD-map _ (between (columnLines (g F o) fs)) c d nowhere (omega (arith, length-between (columnLines (g F o) fs))))
-        ∙ ap (alignmentAt (lines F o) (g F o)) (getD-between (columnLines (g F o) fs) c nowhere (omega arith) ∙ ap (λ (l : List ℕ). getD l c 0) (column-lines F o unsplit))
-        ∙ read-alignment z c u
+        ∙ ap (alignmentAt (lines F o) (g F o)) (getD-between (columnLines (g F o) fs) c nowhere (omega arith) ∙ ap (λ (l : List ℕ). getD l c 0) (columnLines-back F o unsplit))
+        ∙ alignmentAt-back z c u

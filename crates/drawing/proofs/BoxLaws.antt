@@ -59,18 +59,18 @@ border v y x = cornerAt v y x || horizontalAt v y x || verticalAt v y x
 abbrev pub End : ℕ → ℕ → ℕ → Type 0
 End a b n = (n ≡ a) ⊎ (n ≡ b)
 
-end-edge : (a b n : ℕ) → End a b n → isEdge a b n ≡ true
-end-edge a b n (inl e) = or-left (eqb n b) (eq-eqb n a e)
-end-edge a b n (inr e) = or-right (eqb n a) (eq-eqb n b e)
+end-isEdge : (a b n : ℕ) → End a b n → isEdge a b n ≡ true
+end-isEdge a b n (inl e) = or-left (eqb n b) (eq-eqb n a e)
+end-isEdge a b n (inr e) = or-right (eqb n a) (eq-eqb n b e)
 
-edge-end : (a b n : ℕ) → isEdge a b n ≡ true → End a b n
-edge-end a b n h = ⊎-elim (λ e. inl (eqb-true n a e)) (λ e. inr (eqb-true n b e)) (or-cases (eqb n a) (eqb n b) h)
+isEdge-end : (a b n : ℕ) → isEdge a b n ≡ true → End a b n
+isEdge-end a b n h = ⊎-elim (λ e. inl (eqb-true n a e)) (λ e. inr (eqb-true n b e)) (or-cases (eqb n a) (eqb n b) h)
 
-pub inside-between : (a b n : ℕ) → isInside a b n ≡ true → (a < n) × (n < b)
-inside-between a b n h = (ltb-true a n (and-left (ltb a n) (ltb n b) h), ltb-true n b (and-right (ltb a n) (ltb n b) h))
+pub isInside-between : (a b n : ℕ) → isInside a b n ≡ true → (a < n) × (n < b)
+isInside-between a b n h = (ltb-true a n (and-left (ltb a n) (ltb n b) h), ltb-true n b (and-right (ltb a n) (ltb n b) h))
 
-pub between-inside : (a b n : ℕ) → a < n → n < b → isInside a b n ≡ true
-between-inside a b n u v = and-intro (lt-ltb a n u) (lt-ltb n b v)
+pub between-isInside : (a b n : ℕ) → a < n → n < b → isInside a b n ≡ true
+between-isInside a b n u v = and-intro (lt-ltb a n u) (lt-ltb n b v)
 
 -- a unit square of a range that touches a point of it
 pub near-square : (t y b : ℕ) → t ≤ y → y ≤ b → t < b → (s : ℕ) × (t ≤ s) × (s < b) × (s ≤ y) × (y ≤ suc s)
@@ -92,20 +92,20 @@ module _ {v : Canvas} {b : Box} (s : Sized v b) (y x : ℕ) where
 
   corner-touch : cornerOf y x b ≡ true → Touch b y x
   corner-touch h =
-      let d = end-touch (edge-end _ _ y (and-left (isEdge (b .frame .top) (b .frame .bottom) y) (isEdge (b .frame .left) (b .frame .right) x) h)) in
-      let w = side-touch (edge-end _ _ x (and-right (isEdge (b .frame .top) (b .frame .bottom) y) (isEdge (b .frame .left) (b .frame .right) x) h)) in
+      let d = end-touch (isEdge-end _ _ y (and-left (isEdge (b .frame .top) (b .frame .bottom) y) (isEdge (b .frame .left) (b .frame .right) x) h)) in
+      let w = side-touch (isEdge-end _ _ x (and-right (isEdge (b .frame .top) (b .frame .bottom) y) (isEdge (b .frame .left) (b .frame .right) x) h)) in
       record { top = d .0; bottom = d .1; left = w .0; right = w .1 }
 
   horizontal-touch : horizontalOf y x b ≡ true → Touch b y x
   horizontal-touch h =
-      let d = end-touch (edge-end _ _ y (and-left (isEdge (b .frame .top) (b .frame .bottom) y) (isInside (b .frame .left) (b .frame .right) x) h)) in
-      let w = inside-between (b .frame .left) (b .frame .right) x (and-right (isEdge (b .frame .top) (b .frame .bottom) y) (isInside (b .frame .left) (b .frame .right) x) h) in
+      let d = end-touch (isEdge-end _ _ y (and-left (isEdge (b .frame .top) (b .frame .bottom) y) (isInside (b .frame .left) (b .frame .right) x) h)) in
+      let w = isInside-between (b .frame .left) (b .frame .right) x (and-right (isEdge (b .frame .top) (b .frame .bottom) y) (isInside (b .frame .left) (b .frame .right) x) h) in
       record { top = d .0; bottom = d .1; left = omega (arith, w); right = omega (arith, w) }
 
   vertical-touch : verticalOf y x b ≡ true → Touch b y x
   vertical-touch h =
-      let d = side-touch (edge-end _ _ x (and-left (isEdge (b .frame .left) (b .frame .right) x) (isInside (b .frame .top) (b .frame .bottom) y) h)) in
-      let w = inside-between (b .frame .top) (b .frame .bottom) y (and-right (isEdge (b .frame .left) (b .frame .right) x) (isInside (b .frame .top) (b .frame .bottom) y) h) in
+      let d = side-touch (isEdge-end _ _ x (and-left (isEdge (b .frame .left) (b .frame .right) x) (isInside (b .frame .top) (b .frame .bottom) y) h)) in
+      let w = isInside-between (b .frame .top) (b .frame .bottom) y (and-right (isEdge (b .frame .left) (b .frame .right) x) (isInside (b .frame .top) (b .frame .bottom) y) h) in
       record { top = omega (arith, w); bottom = omega (arith, w); left = d .0; right = d .1 }
 
 -- strictly inside a box, none of the box's own border tests pass
@@ -127,105 +127,105 @@ module _ {b : Box} {y x : ℕ} (w : Within b y x) where
 
 -- ---- a box's own border points
 module _ (v : Canvas) {b : Box} (m : List·Memᴰ b (v .boxes)) (y x : ℕ) where
-  pub is-corner : End (b .frame .top) (b .frame .bottom) y → End (b .frame .left) (b .frame .right) x → cornerAt v y x ≡ true
+  pub box-cornerAt : End (b .frame .top) (b .frame .bottom) y → End (b .frame .left) (b .frame .right) x → cornerAt v y x ≡ true
   unfolding cornerAt
-  is-corner e d = mem-any (cornerOf y x) m (and-intro (end-edge _ _ y e) (end-edge _ _ x d))
+  box-cornerAt e d = mem-any (cornerOf y x) m (and-intro (end-isEdge _ _ y e) (end-isEdge _ _ x d))
 
-  pub is-horizontal : End (b .frame .top) (b .frame .bottom) y → b .frame .left < x → x < b .frame .right → horizontalAt v y x ≡ true
+  pub box-horizontalAt : End (b .frame .top) (b .frame .bottom) y → b .frame .left < x → x < b .frame .right → horizontalAt v y x ≡ true
   unfolding horizontalAt
-  is-horizontal e l r = mem-any (horizontalOf y x) m (and-intro (end-edge _ _ y e) (between-inside _ _ x l r))
+  box-horizontalAt e l r = mem-any (horizontalOf y x) m (and-intro (end-isEdge _ _ y e) (between-isInside _ _ x l r))
 
-  pub is-vertical : End (b .frame .left) (b .frame .right) x → b .frame .top < y → y < b .frame .bottom → verticalAt v y x ≡ true
+  pub box-verticalAt : End (b .frame .left) (b .frame .right) x → b .frame .top < y → y < b .frame .bottom → verticalAt v y x ≡ true
   unfolding verticalAt
-  is-vertical e l r = mem-any (verticalOf y x) m (and-intro (end-edge _ _ x e) (between-inside _ _ y l r))
+  box-verticalAt e l r = mem-any (verticalOf y x) m (and-intro (end-isEdge _ _ x e) (between-isInside _ _ y l r))
 
 -- the box of a border point
 module _ (v : Canvas) (y x : ℕ) where
-  pub corner-of : cornerAt v y x ≡ true → (b : Box) × List·Memᴰ b (v .boxes) × End (b .frame .top) (b .frame .bottom) y × End (b .frame .left) (b .frame .right) x
+  pub cornerAt-box : cornerAt v y x ≡ true → (b : Box) × List·Memᴰ b (v .boxes) × End (b .frame .top) (b .frame .bottom) y × End (b .frame .left) (b .frame .right) x
   unfolding cornerAt
-  corner-of h =
+  cornerAt-box h =
       let (b, m, e) = any-mem (cornerOf y x) (v .boxes) h in (
         b,
         m,
-        edge-end _ _ y (and-left (isEdge (b .frame .top) (b .frame .bottom) y) (isEdge (b .frame .left) (b .frame .right) x) e),
-        edge-end _ _ x (and-right (isEdge (b .frame .top) (b .frame .bottom) y) (isEdge (b .frame .left) (b .frame .right) x) e),
+        isEdge-end _ _ y (and-left (isEdge (b .frame .top) (b .frame .bottom) y) (isEdge (b .frame .left) (b .frame .right) x) e),
+        isEdge-end _ _ x (and-right (isEdge (b .frame .top) (b .frame .bottom) y) (isEdge (b .frame .left) (b .frame .right) x) e),
       )
 
-  pub horizontal-of : horizontalAt v y x ≡ true → (b : Box) × List·Memᴰ b (v .boxes) × End (b .frame .top) (b .frame .bottom) y × (b .frame .left < x) × (x < b .frame .right)
+  pub horizontalAt-box : horizontalAt v y x ≡ true → (b : Box) × List·Memᴰ b (v .boxes) × End (b .frame .top) (b .frame .bottom) y × (b .frame .left < x) × (x < b .frame .right)
   unfolding horizontalAt
-  horizontal-of h =
+  horizontalAt-box h =
       let (b, m, e) = any-mem (horizontalOf y x) (v .boxes) h in
-      let w = inside-between (b .frame .left) (b .frame .right) x (and-right (isEdge (b .frame .top) (b .frame .bottom) y) (isInside (b .frame .left) (b .frame .right) x) e) in
-      (b, m, edge-end _ _ y (and-left (isEdge (b .frame .top) (b .frame .bottom) y) (isInside (b .frame .left) (b .frame .right) x) e), w .0, w .1)
+      let w = isInside-between (b .frame .left) (b .frame .right) x (and-right (isEdge (b .frame .top) (b .frame .bottom) y) (isInside (b .frame .left) (b .frame .right) x) e) in
+      (b, m, isEdge-end _ _ y (and-left (isEdge (b .frame .top) (b .frame .bottom) y) (isInside (b .frame .left) (b .frame .right) x) e), w .0, w .1)
 
-  pub vertical-of : verticalAt v y x ≡ true → (b : Box) × List·Memᴰ b (v .boxes) × End (b .frame .left) (b .frame .right) x × (b .frame .top < y) × (y < b .frame .bottom)
+  pub verticalAt-box : verticalAt v y x ≡ true → (b : Box) × List·Memᴰ b (v .boxes) × End (b .frame .left) (b .frame .right) x × (b .frame .top < y) × (y < b .frame .bottom)
   unfolding verticalAt
-  vertical-of h =
+  verticalAt-box h =
       let (b, m, e) = any-mem (verticalOf y x) (v .boxes) h in
-      let w = inside-between (b .frame .top) (b .frame .bottom) y (and-right (isEdge (b .frame .left) (b .frame .right) x) (isInside (b .frame .top) (b .frame .bottom) y) e) in
-      (b, m, edge-end _ _ x (and-left (isEdge (b .frame .left) (b .frame .right) x) (isInside (b .frame .top) (b .frame .bottom) y) e), w .0, w .1)
+      let w = isInside-between (b .frame .top) (b .frame .bottom) y (and-right (isEdge (b .frame .left) (b .frame .right) x) (isInside (b .frame .top) (b .frame .bottom) y) e) in
+      (b, m, isEdge-end _ _ x (and-left (isEdge (b .frame .left) (b .frame .right) x) (isInside (b .frame .top) (b .frame .bottom) y) e), w .0, w .1)
 
-  pub corner-border : cornerAt v y x ≡ true → border v y x ≡ true
+  pub cornerAt-border : cornerAt v y x ≡ true → border v y x ≡ true
   unfolding border
-  corner-border h = rw h
+  cornerAt-border h = rw h
 
-  pub horizontal-border : horizontalAt v y x ≡ true → border v y x ≡ true
+  pub horizontalAt-border : horizontalAt v y x ≡ true → border v y x ≡ true
   unfolding border
-  horizontal-border h = or-left (verticalAt v y x) (or-right (cornerAt v y x) h)
+  horizontalAt-border h = or-left (verticalAt v y x) (or-right (cornerAt v y x) h)
 
-  pub vertical-border : verticalAt v y x ≡ true → border v y x ≡ true
+  pub verticalAt-border : verticalAt v y x ≡ true → border v y x ≡ true
   unfolding border
-  vertical-border h = or-right (cornerAt v y x || horizontalAt v y x) h
+  verticalAt-border h = or-right (cornerAt v y x || horizontalAt v y x) h
 
 module _ {v : Canvas} (P : Tiled v) where
   -- two boxes that hold one square are the same
-  pub once : {b c : Box} → List·Memᴰ b (v .boxes) → List·Memᴰ c (v .boxes) → {y x : ℕ} → Inside y x (b .frame) → Inside y x (c .frame) → b ≡ c
-  once {b} {c} m n {y} {x} p q =
+  pub same-box : {b c : Box} → List·Memᴰ b (v .boxes) → List·Memᴰ c (v .boxes) → {y x : ℕ} → Inside y x (b .frame) → Inside y x (c .frame) → b ≡ c
+  same-box {b} {c} m n {y} {x} p q =
       let s = P .sized b m in
       count-one (λ (b : Box). holds y x (b .frame)) (P .square y x (omega (arith, p .above, s .low)) (omega (arith, p .before, s .near))) m n
       (holds-inside (p .below) (p .above) (p .after) (p .before)) (holds-inside (q .below) (q .above) (q .after) (q .before))
 
   -- the box that holds a square
-  pub holder : (y x : ℕ) → suc y < canvasHeight v → suc x < canvasWidth v → (b : Box) × List·Memᴰ b (v .boxes) × Inside y x (b .frame)
-  holder y x u w =
+  pub box-at : (y x : ℕ) → suc y < canvasHeight v → suc x < canvasWidth v → (b : Box) × List·Memᴰ b (v .boxes) × Inside y x (b .frame)
+  box-at y x u w =
       let (b, m, e) = count-pick (λ (b : Box). holds y x (b .frame)) (v .boxes) (omega (arith, P .square y x u w)) in
       (b, m, inside-holds y x (b .frame) e)
 
-  pub touches : {b c : Box} → List·Memᴰ b (v .boxes) → List·Memᴰ c (v .boxes) → (y x : ℕ) → Within b y x → Touch c y x → b ≡ c
-  touches {b} {c} m n y x w t =
+  pub box-touched : {b c : Box} → List·Memᴰ b (v .boxes) → List·Memᴰ c (v .boxes) → (y x : ℕ) → Within b y x → Touch c y x → b ≡ c
+  box-touched {b} {c} m n y x w t =
       let s = P .sized c n in
       let r = near-square (c .frame .top) y (c .frame .bottom) (t .top) (t .bottom) (omega (arith, s .tall)) in
       let k = near-square (c .frame .left) x (c .frame .right) (t .left) (t .right) (omega (arith, s .broad)) in
-      once m n {y = r .0} {x = k .0}
+      same-box m n {y = r .0} {x = k .0}
       (record { below = omega (arith, r, w .top); above = omega (arith, r, w .bottom); after = omega (arith, k, w .left); before = omega (arith, k, w .right) })
       (record { below = r .1; above = r .2; after = k .1; before = k .2 })
 
   module _ {b : Box} (m : List·Memᴰ b (v .boxes)) (y x : ℕ) (w : Within b y x) where
     free : (p : Box → Bool) → p b ≡ false → ((c : Box) → List·Memᴰ c (v .boxes) → p c ≡ true → Touch c y x) → any p (v .boxes) ≡ false
-    free p e t = none-any p (v .boxes) (λ c n. refused (p c) (λ h. true-not-false (sym h ∙ ap p (sym (touches m n y x w (t c n h))) ∙ e)))
+    free p e t = none-any p (v .boxes) (λ c n. refused (p c) (λ h. true-not-false (sym h ∙ ap p (sym (box-touched m n y x w (t c n h))) ∙ e)))
 
-    pub free-corner : cornerAt v y x ≡ false
+    pub inside-no-corner : cornerAt v y x ≡ false
     unfolding cornerAt
-    free-corner = free (cornerOf y x) (no-corner w) (λ c n h. corner-touch (P .sized c n) y x h)
+    inside-no-corner = free (cornerOf y x) (no-corner w) (λ c n h. corner-touch (P .sized c n) y x h)
 
-    pub free-horizontal : horizontalAt v y x ≡ false
+    pub inside-no-horizontal : horizontalAt v y x ≡ false
     unfolding horizontalAt
-    free-horizontal = free (horizontalOf y x) (no-horizontal w) (λ c n h. horizontal-touch (P .sized c n) y x h)
+    inside-no-horizontal = free (horizontalOf y x) (no-horizontal w) (λ c n h. horizontal-touch (P .sized c n) y x h)
 
-    pub free-vertical : verticalAt v y x ≡ false
+    pub inside-no-vertical : verticalAt v y x ≡ false
     unfolding verticalAt
-    free-vertical = free (verticalOf y x) (no-vertical w) (λ c n h. vertical-touch (P .sized c n) y x h)
+    inside-no-vertical = free (verticalOf y x) (no-vertical w) (λ c n h. vertical-touch (P .sized c n) y x h)
 
-    pub free-border : border v y x ≡ false
+    pub inside-no-border : border v y x ≡ false
     unfolding border
-    free-border = or-none (or-none free-corner free-horizontal) free-vertical
+    inside-no-border = or-none (or-none inside-no-corner inside-no-horizontal) inside-no-vertical
 
   -- each point is a border's or strictly inside a box
-  pub classify : (y x : ℕ) → y < canvasHeight v → x < canvasWidth v → (border v y x ≡ true) ⊎ ((b : Box) × List·Memᴰ b (v .boxes) × Within b y x)
-  classify y x u w =
+  pub border-or-inside : (y x : ℕ) → y < canvasHeight v → x < canvasWidth v → (border v y x ≡ true) ⊎ ((b : Box) × List·Memᴰ b (v .boxes) × Within b y x)
+  border-or-inside y x u w =
       let r = near-square 0 y (canvasHeight v - 1) (omega arith) (omega arith) (omega (arith, P .twoLines)) in
       let c = near-square 0 x (canvasWidth v - 1) (omega arith) (omega arith) (omega (arith, P .twoColumns)) in
-      let k = holder (r .0) (c .0) (omega (arith, r)) (omega (arith, c)) in
+      let k = box-at (r .0) (c .0) (omega (arith, r)) (omega (arith, c)) in
       let b = k .0 in
       let q = k .2 in
       go b (k .1) (end-or-within (b .frame .top) y (b .frame .bottom) (omega (arith, q .below, r)) (omega (arith, q .above, r)))
@@ -233,7 +233,7 @@ module _ {v : Canvas} (P : Tiled v) where
         go : (b : Box) → List·Memᴰ b (v .boxes) → End (b .frame .top) (b .frame .bottom) y ⊎ ((b .frame .top < y) × (y < b .frame .bottom))
             → End (b .frame .left) (b .frame .right) x ⊎ ((b .frame .left < x) × (x < b .frame .right))
             → (border v y x ≡ true) ⊎ ((b : Box) × List·Memᴰ b (v .boxes) × Within b y x)
-        go b m (inl e) (inl d) = inl (corner-border v y x (is-corner v m y x e d))
-        go b m (inl e) (inr d) = inl (horizontal-border v y x (is-horizontal v m y x e (d .0) (d .1)))
-        go b m (inr e) (inl d) = inl (vertical-border v y x (is-vertical v m y x d (e .0) (e .1)))
+        go b m (inl e) (inl d) = inl (cornerAt-border v y x (box-cornerAt v m y x e d))
+        go b m (inl e) (inr d) = inl (horizontalAt-border v y x (box-horizontalAt v m y x e (d .0) (d .1)))
+        go b m (inr e) (inl d) = inl (verticalAt-border v y x (box-verticalAt v m y x d (e .0) (e .1)))
         go b m (inr e) (inr d) = inr (b, m, record { top = e .0; bottom = e .1; left = d .0; right = d .1 })

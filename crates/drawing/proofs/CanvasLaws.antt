@@ -85,21 +85,21 @@ module _ (t : Table) where
   abbrev pub cellBox : TableCell → Box
   cellBox c = boxOf (offsets (widths t)) (offsets (heights t)) c
 
-  pub width-is : canvasWidth (canvasOf t) ≡ suc (xAt (length (t .columns)))
+  pub canvas-width : canvasWidth (canvasOf t) ≡ suc (xAt (length (t .columns)))
   unfolding canvasOf canvasAt
-  width-is = omega (arith, offsets-last 0 (widths t) 0 ∙ ap xAt widths-length)
+  canvas-width = omega (arith, offsets-last 0 (widths t) 0 ∙ ap xAt widths-length)
 
-  pub height-is : canvasHeight (canvasOf t) ≡ suc (yAt (length (t .sections)))
+  pub canvas-height : canvasHeight (canvasOf t) ≡ suc (yAt (length (t .sections)))
   unfolding canvasOf canvasAt
-  height-is = omega (arith, offsets-last 0 (heights t) 0 ∙ ap yAt heights-length)
+  canvas-height = omega (arith, offsets-last 0 (heights t) 0 ∙ ap yAt heights-length)
 
-  boxes-are : canvasOf t .boxes ≡ map cellBox (t .cells)
+  canvas-boxes : canvasOf t .boxes ≡ map cellBox (t .cells)
   unfolding canvasOf canvasAt
-  boxes-are = refl
+  canvas-boxes = refl
 
-  pub columns-are : canvasOf t .columns ≡ t .columns
+  pub canvas-columns : canvasOf t .columns ≡ t .columns
   unfolding canvasOf canvasAt
-  columns-are = refl
+  canvas-columns = refl
 
 well-at : (ls : List (List ℕ)) → ((l : List ℕ) → List·Memᴰ l ls → wellFormed l ≡ true) → (i : ℕ) → wellFormed (getD ls i []) ≡ true
 unfolding wellFrom
@@ -130,41 +130,41 @@ module _ {t : Table} (F : Fine t) where
 
   -- the canvas's boxes are the cells'
   pub box-cell : {b : Box} → List·Memᴰ b (v .boxes) → (c : TableCell) × List·Memᴰ c (t .cells) × (cellBox t c ≡ b)
-  box-cell {b} m = Memᴰ·of-map (cellBox t) (t .cells) (subst (λ (l : List Box). List·Memᴰ b l) (boxes-are t) m)
+  box-cell {b} m = Memᴰ·of-map (cellBox t) (t .cells) (subst (λ (l : List Box). List·Memᴰ b l) (canvas-boxes t) m)
 
   pub cell-box : {c : TableCell} → List·Memᴰ c (t .cells) → List·Memᴰ (cellBox t c) (v .boxes)
-  cell-box {c} m = subst (λ (l : List Box). List·Memᴰ (cellBox t c) l) (sym (boxes-are t)) (Memᴰ·map (cellBox t) m)
+  cell-box {c} m = subst (λ (l : List Box). List·Memᴰ (cellBox t c) l) (sym (canvas-boxes t)) (Memᴰ·map (cellBox t) m)
 
-  pub x-up : (i j : ℕ) → i < j → j ≤ C → xAt t i + 2 ≤ xAt t j
-  x-up i j u w = offset-up (widths t) (widths-one t) j i u (omega (arith, widths-length t))
+  pub xAt-up : (i j : ℕ) → i < j → j ≤ C → xAt t i + 2 ≤ xAt t j
+  xAt-up i j u w = offset-up (widths t) (widths-one t) j i u (omega (arith, widths-length t))
 
-  pub y-up : (i j : ℕ) → i < j → j ≤ R → yAt t i + 2 ≤ yAt t j
-  y-up i j u w = offset-up (heights t) (heights-one t) j i u (omega (arith, heights-length t))
+  pub yAt-up : (i j : ℕ) → i < j → j ≤ R → yAt t i + 2 ≤ yAt t j
+  yAt-up i j u w = offset-up (heights t) (heights-one t) j i u (omega (arith, heights-length t))
 
-  pub x-le : (i j : ℕ) → i ≤ j → j ≤ C → xAt t i ≤ xAt t j
-  x-le i j u w = offset-le (widths t) (widths-one t) i j u (omega (arith, widths-length t))
+  pub xAt-le : (i j : ℕ) → i ≤ j → j ≤ C → xAt t i ≤ xAt t j
+  xAt-le i j u w = offset-le (widths t) (widths-one t) i j u (omega (arith, widths-length t))
 
-  pub y-le : (i j : ℕ) → i ≤ j → j ≤ R → yAt t i ≤ yAt t j
-  y-le i j u w = offset-le (heights t) (heights-one t) i j u (omega (arith, heights-length t))
+  pub yAt-le : (i j : ℕ) → i ≤ j → j ≤ R → yAt t i ≤ yAt t j
+  yAt-le i j u w = offset-le (heights t) (heights-one t) i j u (omega (arith, heights-length t))
 
-  pub x-lt : (i j : ℕ) → i ≤ C → xAt t i < xAt t j → i < j
-  x-lt i j u w = offset-lt (widths t) (widths-one t) i j (omega (arith, widths-length t)) w
+  pub xAt-lt : (i j : ℕ) → i ≤ C → xAt t i < xAt t j → i < j
+  xAt-lt i j u w = offset-lt (widths t) (widths-one t) i j (omega (arith, widths-length t)) w
 
-  pub y-lt : (i j : ℕ) → i ≤ R → yAt t i < yAt t j → i < j
-  y-lt i j u w = offset-lt (heights t) (heights-one t) i j (omega (arith, heights-length t)) w
+  pub yAt-lt : (i j : ℕ) → i ≤ R → yAt t i < yAt t j → i < j
+  yAt-lt i j u w = offset-lt (heights t) (heights-one t) i j (omega (arith, heights-length t)) w
 
-  pub x-same : (i j : ℕ) → i ≤ C → j ≤ C → xAt t i ≡ xAt t j → i ≡ j
-  x-same i j u w e = offset-same (widths t) (widths-one t) i j (omega (arith, widths-length t)) (omega (arith, widths-length t)) e
+  pub xAt-same : (i j : ℕ) → i ≤ C → j ≤ C → xAt t i ≡ xAt t j → i ≡ j
+  xAt-same i j u w e = offset-same (widths t) (widths-one t) i j (omega (arith, widths-length t)) (omega (arith, widths-length t)) e
 
   pub cell-sized : {c : TableCell} → List·Memᴰ c (t .cells) → Sized v (cellBox t c)
   unfolding boxOf
   cell-sized {c} m =
       let s = U .lies c m in
       record {
-        tall = omega (arith, y-up (c .row) (c .row + c .rowspan) (omega (arith, s .tall)) (s .low));
-        low = omega (arith, height-is t, y-le (c .row + c .rowspan) R (s .low) (le-refl _));
-        broad = omega (arith, x-up (c .column) (c .column + c .colspan) (omega (arith, s .broad)) (s .near));
-        near = omega (arith, width-is t, x-le (c .column + c .colspan) C (s .near) (le-refl _));
+        tall = omega (arith, yAt-up (c .row) (c .row + c .rowspan) (omega (arith, s .tall)) (s .low));
+        low = omega (arith, canvas-height t, yAt-le (c .row + c .rowspan) R (s .low) (le-refl _));
+        broad = omega (arith, xAt-up (c .column) (c .column + c .colspan) (omega (arith, s .broad)) (s .near));
+        near = omega (arith, canvas-width t, xAt-le (c .column + c .colspan) C (s .near) (le-refl _));
       }
 
   -- a box holds a square of the canvas where its cell holds the square of the grid that it lies in
@@ -183,19 +183,19 @@ module _ {t : Table} (F : Fine t) where
 
   square : (y x : ℕ) → suc y < canvasHeight v → suc x < canvasWidth v → count (λ (b : Box). holds y x (b .frame)) (v .boxes) ≡ 1
   square y x u w =
-      let (r, hr, lr, ur) = offset-place (heights t) (heights-one t) R y (omega (arith, heights-length t)) (omega (arith, height-is t)) in
-      let (k, hk, lk, uk) = offset-place (widths t) (widths-one t) C x (omega (arith, widths-length t)) (omega (arith, width-is t)) in
-      ap (count (λ (b : Box). holds y x (b .frame))) (boxes-are t) ∙ count-map (cellBox t) (λ (b : Box). holds y x (b .frame)) (t .cells)
+      let (r, hr, lr, ur) = offset-place (heights t) (heights-one t) R y (omega (arith, heights-length t)) (omega (arith, canvas-height t)) in
+      let (k, hk, lk, uk) = offset-place (widths t) (widths-one t) C x (omega (arith, widths-length t)) (omega (arith, canvas-width t)) in
+      ap (count (λ (b : Box). holds y x (b .frame))) (canvas-boxes t) ∙ count-map (cellBox t) (λ (b : Box). holds y x (b .frame)) (t .cells)
       ∙ count-agree (λ c. holds y x (cellBox t c .frame)) (holdsSquare r k) (t .cells) (λ c m. holds-as m y x r k hr lr ur hk lk uk)
       ∙ U .square r k hr hk
 
-  pub tiled : Tiled v
-  tiled =
+  pub canvas-tiled : Tiled v
+  canvas-tiled =
       record {
         sized = λ b m. let (c, n, e) = box-cell m in subst (λ (z : Box). Sized v z) e (cell-sized n);
         square = square;
-        twoLines = omega (arith, height-is t, y-up 0 R (F .someRow) (le-refl _));
-        twoColumns = omega (arith, width-is t, x-up 0 C (F .someColumn) (le-refl _));
+        twoLines = omega (arith, canvas-height t, yAt-up 0 R (F .someRow) (le-refl _));
+        twoColumns = omega (arith, canvas-width t, xAt-up 0 C (F .someColumn) (le-refl _));
       }
 
   -- ---- texts
@@ -231,47 +231,47 @@ module _ {t : Table} (F : Fine t) where
         fits = omega (arith, cell-broad m, widest-measure (drawnLines (c .lines)) i);
       }
 
-  pub written : Written v
-  written = record { tiled = tiled; texts = λ b m i. let (c, n, e) = box-cell m in subst (λ (z : Box). Fits z i) e (cell-fits n i) }
+  pub canvas-written : Written v
+  canvas-written = record { tiled = canvas-tiled; texts = λ b m i. let (c, n, e) = box-cell m in subst (λ (z : Box). Fits z i) e (cell-fits n i) }
 
   -- ---- the sides of boxes are column lines
-  pub side-line : {b : Box} → List·Memᴰ b (v .boxes) → (x : ℕ) → Side b x → (j : ℕ) × (j ≤ C) × (x ≡ xAt t j)
+  pub side-xAt : {b : Box} → List·Memᴰ b (v .boxes) → (x : ℕ) → Side b x → (j : ℕ) × (j ≤ C) × (x ≡ xAt t j)
   unfolding boxOf
-  side-line {b} m x d = let (c, n, e) = box-cell m in go c (U .lies c n) e d where
+  side-xAt {b} m x d = let (c, n, e) = box-cell m in go c (U .lies c n) e d where
     go : (c : TableCell) → Lies t c → cellBox t c ≡ b → (x ≡ b .frame .left) ⊎ (x ≡ b .frame .right) → (j : ℕ) × (j ≤ C) × (x ≡ xAt t j)
     go c s e (inl q) = (c .column, omega (arith, s .near), q ∙ sym (ap (λ (z : Box). z .frame .left) e))
     go c s e (inr q) = (c .column + c .colspan, s .near, q ∙ sym (ap (λ (z : Box). z .frame .right) e))
 
-  pub spaced : (b c : Box) → List·Memᴰ b (v .boxes) → List·Memᴰ c (v .boxes) → (x z : ℕ) → Side b x → Side c z → x < z → x + 1 < z
-  spaced b c m n x z d e u =
-      let (i, hi, qi) = side-line m x d in
-      let (j, hj, qj) = side-line n z e in
-      omega (arith, x-up i j (x-lt i j hi (omega arith)) hj)
+  pub canvas-spaced : (b c : Box) → List·Memᴰ b (v .boxes) → List·Memᴰ c (v .boxes) → (x z : ℕ) → Side b x → Side c z → x < z → x + 1 < z
+  canvas-spaced b c m n x z d e u =
+      let (i, hi, qi) = side-xAt m x d in
+      let (j, hj, qj) = side-xAt n z e in
+      omega (arith, xAt-up i j (xAt-lt i j hi (omega arith)) hj)
 
   -- ---- order
   abbrev pub frames : List Rect
   frames = map (λ (b : Box). b .frame) (canvasOf t .boxes)
 
-  pub frames-are : frames ≡ map (λ (c : TableCell). cellBox t c .frame) (t .cells)
-  frames-are = ap (map (λ (b : Box). b .frame)) (boxes-are t) ∙ map-map (λ (b : Box). b .frame) (cellBox t) (t .cells)
+  pub frames-cells : frames ≡ map (λ (c : TableCell). cellBox t c .frame) (t .cells)
+  frames-cells = ap (map (λ (b : Box). b .frame)) (canvas-boxes t) ∙ map-map (λ (b : Box). b .frame) (cellBox t) (t .cells)
 
   pub frame-cell : {q : Rect} → List·Memᴰ q frames → (c : TableCell) × List·Memᴰ c (t .cells) × (cellBox t c .frame ≡ q)
-  frame-cell {q} m = Memᴰ·of-map (λ (c : TableCell). cellBox t c .frame) (t .cells) (subst (λ (l : List Rect). List·Memᴰ q l) frames-are m)
+  frame-cell {q} m = Memᴰ·of-map (λ (c : TableCell). cellBox t c .frame) (t .cells) (subst (λ (l : List Rect). List·Memᴰ q l) frames-cells m)
 
   frame-precedes : (a b : TableCell) → List·Memᴰ a (t .cells) → List·Memᴰ b (t .cells) → comesBefore a b ≡ true → precedes (cellBox t a .frame) (cellBox t b .frame) ≡ true
   unfolding boxOf
   frame-precedes a b m n e =
       let sa = U .lies a m in
       let sb = U .lies b n in
-      ⊎-elim (λ (h : a .row < b .row). lex-above (yAt t (a .row)) (yAt t (b .row)) (xAt t (a .column)) (xAt t (b .column)) (omega (arith, y-up (a .row) (b .row) h (omega (arith, sb .low)))))
+      ⊎-elim (λ (h : a .row < b .row). lex-above (yAt t (a .row)) (yAt t (b .row)) (xAt t (a .column)) (xAt t (b .column)) (omega (arith, yAt-up (a .row) (b .row) h (omega (arith, sb .low)))))
       (λ (h : (a .row ≡ b .row) × (a .column < b .column)).
-      lex-beside (yAt t (a .row)) (yAt t (b .row)) (xAt t (a .column)) (xAt t (b .column)) (ap (yAt t) (h .0)) (omega (arith, x-up (a .column) (b .column) (h .1) (omega (arith, sb .near)))))
+      lex-beside (yAt t (a .row)) (yAt t (b .row)) (xAt t (a .column)) (xAt t (b .column)) (ap (yAt t) (h .0)) (omega (arith, xAt-up (a .column) (b .column) (h .1) (omega (arith, sb .near)))))
       (lex-cases (a .row) (b .row) (a .column) (b .column) e)
 
   pub frames-ordered : neighbours precedes frames ≡ true
   frames-ordered =
-      ap (neighbours precedes) frames-are ∙ neighbours-map (λ (c : TableCell). cellBox t c .frame) precedes (t .cells)
+      ap (neighbours precedes) frames-cells ∙ neighbours-map (λ (c : TableCell). cellBox t c .frame) precedes (t .cells)
       ∙ neighbours-imply comesBefore (λ a b. precedes (cellBox t a .frame) (cellBox t b .frame)) (t .cells) frame-precedes (U .ordered)
 
   pub frames-few : length frames ≤ 1024
-  frames-few = omega (arith, ap length frames-are, length-map (t .cells) (λ (c : TableCell). cellBox t c .frame), F .few)
+  frames-few = omega (arith, ap length frames-cells, length-map (t .cells) (λ (c : TableCell). cellBox t c .frame), F .few)

@@ -27,15 +27,15 @@ use Rattle.drawing.specs.Sizes.{widths, heights, offsets}
 use Rattle.drawing.specs.Plain.{Box, Canvas, boxOf, canvasOf, canvasWidth, canvasHeight, canvasLines}
 use Rattle.drawing.specs.Redraw.{splits}
 use Rattle.drawing.proofs.OffsetLaws.{offsets-length, offsets-rise}
-use Rattle.drawing.proofs.BoxLaws.{holder}
+use Rattle.drawing.proofs.BoxLaws.{box-at}
 use Rattle.drawing.proofs.RuleRows.{Lined}
 use Rattle.drawing.proofs.KeptLaws.{Kept}
-use Rattle.drawing.proofs.CanvasLaws.{Fine, xAt, yAt, cellBox, widths-length, heights-length, width-is, height-is, box-cell, cell-box, cell-tall, tiled, frames, frames-are, frame-cell, frames-ordered, frames-few}
-use Rattle.drawing.proofs.LinedLaws.{lined}
-use Rattle.drawing.proofs.GlyphRows.{grid-width, grid-height, gap-glyph, box-bordered}
-use Rattle.drawing.proofs.FirstBoxes.{whole-first, Part, part-first}
+use Rattle.drawing.proofs.CanvasLaws.{Fine, xAt, yAt, cellBox, widths-length, heights-length, canvas-width, canvas-height, box-cell, cell-box, cell-tall, canvas-tiled, frames, frames-cells, frame-cell, frames-ordered, frames-few}
+use Rattle.drawing.proofs.LinedLaws.{canvas-lined}
+use Rattle.drawing.proofs.GlyphRows.{grid-width, grid-height, glyphAt-gap, box-bordered}
+use Rattle.drawing.proofs.FirstBoxes.{unsplit-first, Part, split-first}
 use Rattle.grid.proofs.TileLaws.{Tiles, tiles-traced}
-use Rattle.drawing.proofs.CutBoxes.{cut-is}
+use Rattle.drawing.proofs.CutBoxes.{cutAt-box}
 use Rattle.grid.proofs.DrawnLineLaws.{dropped-rows, drawn-trimmed, drawn-dropped, drawn-again}
 use Rattle.drawing.proofs.ReadRules.{cell, table-cells}
 
@@ -50,7 +50,7 @@ module _ {t : Table} (F : Fine t) (o : ℕ) where
   g = gridOf (canvasLines o (canvasOf t))
 
   abbrev pub L : Lined v
-  L = lined F
+  L = canvas-lined F
 
   U : Kept t
   U = F .rules
@@ -62,33 +62,33 @@ module _ {t : Table} (F : Fine t) (o : ℕ) where
   cell-bordered m = box-bordered L o (cell-box F m)
 
   frame-once : (y x : ℕ) → suc y < canvasHeight v → suc x < canvasWidth v → count (holds y x) fs ≡ 1
-  frame-once y x u w = count-map (λ (b : Box). b .frame) (holds y x) (v .boxes) ∙ tiled F .square y x u w
+  frame-once y x u w = count-map (λ (b : Box). b .frame) (holds y x) (v .boxes) ∙ canvas-tiled F .square y x u w
 
-  pub tiles : Tiles g fs
-  tiles =
+  pub frames-tiles : Tiles g fs
+  frames-tiles =
       record {
-        tall = omega (arith, grid-height L o, tiled F .twoLines);
-        wide = omega (arith, grid-width L o, tiled F .twoColumns);
+        tall = omega (arith, grid-height L o, canvas-tiled F .twoLines);
+        wide = omega (arith, grid-width L o, canvas-tiled F .twoColumns);
         each = λ q m. let (c, n, e) = frame-cell F m in subst (Bordered g) e (cell-bordered n);
         once = λ y x u w. frame-once y x (omega (arith, grid-height L o)) (omega (arith, grid-width L o));
         ordered = frames-ordered F;
       }
 
   pub cell-first : {c : TableCell} → List·Memᴰ c (t .cells) → splits g (cellBox t c .frame) ≡ false → First g (cellBox t c .frame)
-  cell-first m s = whole-first (cell-bordered m) (gap-glyph L o (cell-box F m)) s
+  cell-first m s = unsplit-first (cell-bordered m) (glyphAt-gap L o (cell-box F m)) s
 
-  pub cell-part : {c : TableCell} (m : List·Memᴰ c (t .cells)) → splits g (cellBox t c .frame) ≡ true → Part (cell-bordered m) (gap-glyph L o (cell-box F m))
-  cell-part m s = part-first (cell-bordered m) (gap-glyph L o (cell-box F m)) s
+  pub cell-part : {c : TableCell} (m : List·Memᴰ c (t .cells)) → splits g (cellBox t c .frame) ≡ true → Part (cell-bordered m) (glyphAt-gap L o (cell-box F m))
+  cell-part m s = split-first (cell-bordered m) (glyphAt-gap L o (cell-box F m)) s
 
   module _ (unsplit : (c : TableCell) → List·Memᴰ c (t .cells) → splits g (cellBox t c .frame) ≡ false) where
     frame-first : (q : Rect) → List·Memᴰ q fs → First g q
     frame-first q m = let (c, n, e) = frame-cell F m in subst (First g) e (cell-first n (unsplit c n))
 
     pub frames-traced : trace g ≡ covered fs
-    frames-traced = tiles-traced tiles (frames-few F) frame-first
+    frames-traced = tiles-traced frames-tiles (frames-few F) frame-first
 
-    pub cover : Cover g fs
-    cover = record { tall = tiles .tall; wide = tiles .wide; first = frame-first; once = tiles .once }
+    pub frames-cover : Cover g fs
+    frames-cover = record { tall = frames-tiles .tall; wide = frames-tiles .wide; first = frame-first; once = frames-tiles .once }
 
     -- ---- lines
     abbrev xs : List ℕ
@@ -103,11 +103,11 @@ module _ {t : Table} (F : Fine t) (o : ℕ) where
     abbrev R : ℕ
     R = length (t .sections)
 
-    pub xs-long : length xs ≡ suc C
-    xs-long = offsets-length 0 (widths t) ∙ ap suc (widths-length t)
+    pub xs-length : length xs ≡ suc C
+    xs-length = offsets-length 0 (widths t) ∙ ap suc (widths-length t)
 
-    pub ys-long : length ys ≡ suc R
-    ys-long = offsets-length 0 (heights t) ∙ ap suc (heights-length t)
+    pub ys-length : length ys ≡ suc R
+    ys-length = offsets-length 0 (heights t) ∙ ap suc (heights-length t)
 
     frame-in : {c : TableCell} → List·Memᴰ c (t .cells) → List·Memᴰ (cellBox t c .frame) fs
     frame-in m = Memᴰ·map (λ (b : Box). b .frame) (cell-box F m)
@@ -121,10 +121,10 @@ module _ {t : Table} (F : Fine t) (o : ℕ) where
 
       at-end : j ≡ C → (c : TableCell) × List·Memᴰ c (t .cells) × ((xAt t j ≡ cellBox t c .frame .left) ⊎ (xAt t j ≡ cellBox t c .frame .right))
       at-end e =
-          let (b, m, q) = holder (tiled F) 0 (canvasWidth v - 2) (omega (arith, tiled F .twoLines)) (omega (arith, tiled F .twoColumns)) in
+          let (b, m, q) = box-at (canvas-tiled F) 0 (canvasWidth v - 2) (omega (arith, canvas-tiled F .twoLines)) (omega (arith, canvas-tiled F .twoColumns)) in
           let (c, n, made) = box-cell F m in
           let r = ap (λ (z : Box). z .frame .right) made in
-          (c, n, inr (ap (xAt t) e ∙ omega (arith, q .before, tiled F .sized b m .near, width-is t)))
+          (c, n, inr (ap (xAt t) e ∙ omega (arith, q .before, canvas-tiled F .sized b m .near, canvas-width t)))
 
     y-edge : (j : ℕ) → j ≤ R → (c : TableCell) × List·Memᴰ c (t .cells) × ((yAt t j ≡ cellBox t c .frame .top) ⊎ (yAt t j ≡ cellBox t c .frame .bottom))
     unfolding boxOf
@@ -134,59 +134,59 @@ module _ {t : Table} (F : Fine t) (o : ℕ) where
 
       at-end : j ≡ R → (c : TableCell) × List·Memᴰ c (t .cells) × ((yAt t j ≡ cellBox t c .frame .top) ⊎ (yAt t j ≡ cellBox t c .frame .bottom))
       at-end e =
-          let (b, m, q) = holder (tiled F) (canvasHeight v - 2) 0 (omega (arith, tiled F .twoLines)) (omega (arith, tiled F .twoColumns)) in
+          let (b, m, q) = box-at (canvas-tiled F) (canvasHeight v - 2) 0 (omega (arith, canvas-tiled F .twoLines)) (omega (arith, canvas-tiled F .twoColumns)) in
           let (c, n, made) = box-cell F m in
           let r = ap (λ (z : Box). z .frame .bottom) made in
-          (c, n, inr (ap (yAt t) e ∙ omega (arith, q .above, tiled F .sized b m .low, height-is t)))
+          (c, n, inr (ap (yAt t) e ∙ omega (arith, q .above, canvas-tiled F .sized b m .low, canvas-height t)))
 
     on-x : {c : TableCell} → List·Memᴰ c (t .cells) → (x : ℕ) → (x ≡ cellBox t c .frame .left) ⊎ (x ≡ cellBox t c .frame .right) → List·Memᴰ x xs
     unfolding boxOf
-    on-x {c} m x (inl e) = rw e (getD-mem xs (c .column) 0 (omega (arith, xs-long, U .lies c m .near)))
-    on-x {c} m x (inr e) = rw e (getD-mem xs (c .column + c .colspan) 0 (omega (arith, xs-long, U .lies c m .near)))
+    on-x {c} m x (inl e) = rw e (getD-mem xs (c .column) 0 (omega (arith, xs-length, U .lies c m .near)))
+    on-x {c} m x (inr e) = rw e (getD-mem xs (c .column + c .colspan) 0 (omega (arith, xs-length, U .lies c m .near)))
 
     on-y : {c : TableCell} → List·Memᴰ c (t .cells) → (y : ℕ) → (y ≡ cellBox t c .frame .top) ⊎ (y ≡ cellBox t c .frame .bottom) → List·Memᴰ y ys
     unfolding boxOf
-    on-y {c} m y (inl e) = rw e (getD-mem ys (c .row) 0 (omega (arith, ys-long, U .lies c m .low)))
-    on-y {c} m y (inr e) = rw e (getD-mem ys (c .row + c .rowspan) 0 (omega (arith, ys-long, U .lies c m .low)))
+    on-y {c} m y (inl e) = rw e (getD-mem ys (c .row) 0 (omega (arith, ys-length, U .lies c m .low)))
+    on-y {c} m y (inr e) = rw e (getD-mem ys (c .row + c .rowspan) 0 (omega (arith, ys-length, U .lies c m .low)))
 
-    pub column-lines : columnLines g fs ≡ xs
-    column-lines =
+    pub columnLines-back : columnLines g fs ≡ xs
+    columnLines-back =
         sorted-same ltb rising-strict (columnLines g fs) xs (columnLines-rise g fs) (offsets-rise 0 (widths t)) there back where
           there : (x : ℕ) → List·Memᴰ x (columnLines g fs) → List·Memᴰ x xs
           there x m =
-              let (q, n, d) = columnLines-edges cover x .0 m in
+              let (q, n, d) = columnLines-edges frames-cover x .0 m in
               let (c, k, e) = frame-cell F n in
               on-x k x (⊎-elim (λ i. inl (i ∙ sym (ap (λ (z : Rect). z .left) e))) (λ i. inr (i ∙ sym (ap (λ (z : Rect). z .right) e))) d)
 
           back : (x : ℕ) → List·Memᴰ x xs → List·Memᴰ x (columnLines g fs)
           back x m =
               let p = position xs (offsets-rise 0 (widths t)) m in
-              let (c, k, d) = x-edge (count (λ n. ltb n x) xs) (omega (arith, p .inside, xs-long)) in
-              columnLines-edges cover x .1 (cellBox t c .frame, frame-in k, ⊎-elim (λ i. inl (sym (p .here) ∙ i)) (λ i. inr (sym (p .here) ∙ i)) d)
+              let (c, k, d) = x-edge (count (λ n. ltb n x) xs) (omega (arith, p .inside, xs-length)) in
+              columnLines-edges frames-cover x .1 (cellBox t c .frame, frame-in k, ⊎-elim (λ i. inl (sym (p .here) ∙ i)) (λ i. inr (sym (p .here) ∙ i)) d)
 
-    pub row-lines : rowLines g fs ≡ ys
-    row-lines =
+    pub rowLines-back : rowLines g fs ≡ ys
+    rowLines-back =
         sorted-same ltb rising-strict (rowLines g fs) ys (rowLines-rise g fs) (offsets-rise 0 (heights t)) there back where
           there : (y : ℕ) → List·Memᴰ y (rowLines g fs) → List·Memᴰ y ys
           there y m =
-              let (q, n, d) = rowLines-edges cover y .0 m in
+              let (q, n, d) = rowLines-edges frames-cover y .0 m in
               let (c, k, e) = frame-cell F n in
               on-y k y (⊎-elim (λ i. inl (i ∙ sym (ap (λ (z : Rect). z .top) e))) (λ i. inr (i ∙ sym (ap (λ (z : Rect). z .bottom) e))) d)
 
           back : (y : ℕ) → List·Memᴰ y ys → List·Memᴰ y (rowLines g fs)
           back y m =
               let p = position ys (offsets-rise 0 (heights t)) m in
-              let (c, k, d) = y-edge (count (λ n. ltb n y) ys) (omega (arith, p .inside, ys-long)) in
-              rowLines-edges cover y .1 (cellBox t c .frame, frame-in k, ⊎-elim (λ i. inl (sym (p .here) ∙ i)) (λ i. inr (sym (p .here) ∙ i)) d)
+              let (c, k, d) = y-edge (count (λ n. ltb n y) ys) (omega (arith, p .inside, ys-length)) in
+              rowLines-edges frames-cover y .1 (cellBox t c .frame, frame-in k, ⊎-elim (λ i. inl (sym (p .here) ∙ i)) (λ i. inr (sym (p .here) ∙ i)) d)
 
     -- the number of a line
     x-index : (j : ℕ) → j ≤ C → indexOf (columnLines g fs) (xAt t j) ≡ j
     unfolding indexOf
-    x-index j u = ap (λ (l : List ℕ). indexOf l (xAt t j)) column-lines ∙ position-at xs (offsets-rise 0 (widths t)) j (omega (arith, xs-long))
+    x-index j u = ap (λ (l : List ℕ). indexOf l (xAt t j)) columnLines-back ∙ position-at xs (offsets-rise 0 (widths t)) j (omega (arith, xs-length))
 
     y-index : (j : ℕ) → j ≤ R → indexOf (rowLines g fs) (yAt t j) ≡ j
     unfolding indexOf
-    y-index j u = ap (λ (l : List ℕ). indexOf l (yAt t j)) row-lines ∙ position-at ys (offsets-rise 0 (heights t)) j (omega (arith, ys-long))
+    y-index j u = ap (λ (l : List ℕ). indexOf l (yAt t j)) rowLines-back ∙ position-at ys (offsets-rise 0 (heights t)) j (omega (arith, ys-length))
 
     -- ---- cells
     lines-back : {c : TableCell} → List·Memᴰ c (t .cells) → tableCell lines (layoutOf lines g fs) (cellRead g fs (cellBox t c .frame)) .lines ≡ drawnLines (c .lines)
@@ -194,11 +194,11 @@ module _ {t : Table} (F : Fine t) (o : ℕ) where
     lines-back {c} m =
         let b = cellBox t c in
         let n = cell-box F m in
-        cell-lines lines g fs cover (frame-in m)
+        cell-lines lines g fs frames-cover (frame-in m)
         ∙ dropped-rows (drawnLines (c .lines)) (b .frame .bottom - b .frame .top - 1) (b .frame .top + 1) (λ y. cutAt lines g (b .frame) y .text)
         (λ i w.
         let e : b .frame .top + 1 + i - b .frame .top - 1 ≡ i = omega arith in
-        cut-is L o n (b .frame .top + 1 + i) (omega arith) (omega arith) (drawn-trimmed (c .lines) (b .frame .top + 1 + i - b .frame .top - 1))
+        cutAt-box L o n (b .frame .top + 1 + i) (omega arith) (omega arith) (drawn-trimmed (c .lines) (b .frame .top + 1 + i - b .frame .top - 1))
         ∙ ap (λ (j : ℕ). getD (drawnLines (c .lines)) j []) e) (omega (arith, cell-tall F m))
         ∙ drawn-dropped (c .lines)
 
@@ -237,9 +237,9 @@ module _ {t : Table} (F : Fine t) (o : ℕ) where
 
     cells-back : tableOf lines (layoutOf lines g fs) .cells ≡ map normalCell (t .cells)
     cells-back =
-        table-cells lines g fs cover ∙ ap (map (cell lines g fs cover)) (frames-are F)
-        ∙ map-map (cell lines g fs cover) (λ (c : TableCell). cellBox t c .frame) (t .cells)
-        ∙ map-same (λ (c : TableCell). cell lines g fs cover (cellBox t c .frame)) normalCell (t .cells) cell-back
+        table-cells lines g fs frames-cover ∙ ap (map (cell lines g fs frames-cover)) (frames-cells F)
+        ∙ map-map (cell lines g fs frames-cover) (λ (c : TableCell). cellBox t c .frame) (t .cells)
+        ∙ map-same (λ (c : TableCell). cell lines g fs frames-cover (cellBox t c .frame)) normalCell (t .cells) cell-back
 
     normal-again : (c : TableCell) → List·Memᴰ c (t .cells) → normalCell (normalCell c) ≡ normalCell c
     unfolding normalCell

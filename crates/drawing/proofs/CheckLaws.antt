@@ -21,7 +21,7 @@ use Rattle.grid.specs.Flat.{tableLines}
 use Rattle.drawing.specs.GridRules.{keepsRules}
 use Rattle.drawing.specs.Plain.{Canvas, canvasWidth}
 use Rattle.drawing.specs.Redraw.{tableEmpty, shapeTooLarge, linesTooLarge, tableTooLarge, tableOutsideSet, drawnTooLarge}
-use Rattle.drawing.proofs.KeptLaws.{kept}
+use Rattle.drawing.proofs.KeptLaws.{keepsRules-kept}
 use Rattle.drawing.proofs.CanvasLaws.{Fine}
 
 -- ---- limits
@@ -71,7 +71,7 @@ fine o t notEmpty notTooLarge inSet rules =
     let (_, shape, _) = tableTooLarge-parts o t notTooLarge in
     let (_, _, few) = shapeTooLarge-limits t shape in
     record {
-      rules = kept t rules;
+      rules = keepsRules-kept t rules;
       someColumn = some-length (t .columns) (some .0);
       someRow = some-length (t .sections) (some .1);
       well = λ c m l n. not-false (wellFormed l) (firstAt-none (λ line. not (wellFormed line)) 0 (tableLines t) inSet (flatMap-mem (λ (c : TableCell). c .lines) m n));

@@ -26,9 +26,9 @@ use Rattle.grid.proofs.SpanSlotLaws.{slots-at, slots-count, slot-head, slot-ins
 use Rattle.grid.proofs.DrawnLineLaws.{inner-cut}
 use Rattle.drawing.specs.Plain.{Box, Canvas, canvasWidth, canvasHeight, innerLine, canvasLines}
 use Rattle.drawing.proofs.BoxLaws.{Sized, Tiled}
-use Rattle.drawing.proofs.RowLaws.{textColumns, spans-text, edgeByte, flat, flat-cut, flat-inner, line-text, left-border, right-border, border-next, left-spans, row-is}
+use Rattle.drawing.proofs.RowLaws.{textColumns, text-spans, edgeByte, flat, flat-cut, flat-inner, drawnLine-text, border-left, border-right, flat-border, flat-left, flat-around}
 use Rattle.drawing.proofs.RuleRows.{Lined}
-use Rattle.drawing.proofs.GlyphRows.{ruleAt, line-is, line-slots, border-at, inner-rule, gap-glyph}
+use Rattle.drawing.proofs.GlyphRows.{ruleAt, canvasLines-at, rows-flat, slotAt-border, ruleAt-inner, glyphAt-gap}
 
 -- the cut of a text that begins with a space, n bytes of it, is shorter than n
 short-cut : (line byte column n : ℕ) (r : List ℕ) (m : ℕ) → n ≤ m → 0 < m → length (afterFirst (trimEnd (take n (space ∷ r))) line byte column .text) < m
@@ -56,10 +56,10 @@ module _ {v : Canvas} (L : Lined v) (o : ℕ) {b : Box} (m : List·Memᴰ b (v .
   abbrev Before : List ℕ
   Before = flat o v y 0 (b .frame .left + 1)
 
-  left-byte : byteAt g y (b .frame .left) + 1 ≡ length Before
-  left-byte =
-      ap (λ (z : Slot). z .byte + 1) (border-at L o y (b .frame .left) low (omega (arith, s .near, s .broad)) (left-border P o m y u w))
-      ∙ sym (ap length (border-next (L .written) o y low (b .frame .left) (left-border P o m y u w)) ∙ length-append (flat o v y 0 (b .frame .left)) (edgeByte v y (b .frame .left) ∷ []))
+  byteAt-left : byteAt g y (b .frame .left) + 1 ≡ length Before
+  byteAt-left =
+      ap (λ (z : Slot). z .byte + 1) (slotAt-border L o y (b .frame .left) low (omega (arith, s .near, s .broad)) (border-left P o m y u w))
+      ∙ sym (ap length (flat-border (L .written) o y low (b .frame .left) (border-left P o m y u w)) ∙ length-append (flat o v y 0 (b .frame .left)) (edgeByte v y (b .frame .left) ∷ []))
 
   to-right : flat o v y 0 (b .frame .right) ≡ Before ++ innerLine o b y
   to-right =
@@ -68,29 +68,29 @@ module _ {v : Canvas} (L : Lined v) (o : ℕ) {b : Box} (m : List·Memᴰ b (v .
       let j : b .frame .right - 0 ≡ b .frame .right = omega arith in
       (rw i at (rw j at c)) ∙ ap (λ (r : List ℕ). Before ++ r) (flat-inner P o m y u w)
 
-  right-byte : byteAt g y (b .frame .right) ≡ length Before + length (innerLine o b y)
-  right-byte =
-      ap (λ (z : Slot). z .byte) (border-at L o y (b .frame .right) low (s .near) (right-border P o m y u w))
+  byteAt-right : byteAt g y (b .frame .right) ≡ length Before + length (innerLine o b y)
+  byteAt-right =
+      ap (λ (z : Slot). z .byte) (slotAt-border L o y (b .frame .right) low (s .near) (border-right P o m y u w))
       ∙ ap length to-right ∙ length-append Before (innerLine o b y)
 
   -- the text of line y as reading gets it
-  text-is : getD (canvasLines o v) y (record { text = []; column = 0 }) .text ≡ flat o v y 0 (canvasWidth v)
-  text-is = ap (λ (l : Line). l .text) (line-is o v y (record { text = []; column = 0 }) low) ∙ line-text o v y
+  canvasLines-text : getD (canvasLines o v) y (record { text = []; column = 0 }) .text ≡ flat o v y 0 (canvasWidth v)
+  canvasLines-text = ap (λ (l : Line). l .text) (canvasLines-at o v y (record { text = []; column = 0 }) low) ∙ drawnLine-text o v y
 
   -- the part after the left border up to the right border
-  part-is : part (contentAt g (b .frame) y) (flat o v y 0 (canvasWidth v)) ≡ innerLine o b y
-  part-is =
+  part-inner : part (contentAt g (b .frame) y) (flat o v y 0 (canvasWidth v)) ≡ innerLine o b y
+  part-inner =
       let rest = flat o v y (b .frame .right) (canvasWidth v - b .frame .right) in
-      let e : byteAt g y (b .frame .right) - (byteAt g y (b .frame .left) + 1) ≡ length (innerLine o b y) = omega (arith, left-byte, right-byte) in
-      rw (e, left-byte, row-is (L .written) o y low m u w, drop-append-seam Before (innerLine o b y ++ rest)) (take-append-seam (innerLine o b y) rest)
+      let e : byteAt g y (b .frame .right) - (byteAt g y (b .frame .left) + 1) ≡ length (innerLine o b y) = omega (arith, byteAt-left, byteAt-right) in
+      rw (e, byteAt-left, flat-around (L .written) o y low m u w, drop-append-seam Before (innerLine o b y ++ rest)) (take-append-seam (innerLine o b y) rest)
 
-  pub cut-is : trimEnd (getD (b .lines) (y - b .frame .top - 1) []) ≡ getD (b .lines) (y - b .frame .top - 1) []
+  pub cutAt-box : trimEnd (getD (b .lines) (y - b .frame .top - 1) []) ≡ getD (b .lines) (y - b .frame .top - 1) []
       → cutAt (canvasLines o v) g (b .frame) y .text ≡ getD (b .lines) (y - b .frame .top - 1) []
   unfolding cut innerLine
-  cut-is h =
+  cutAt-box h =
       let given = getD (canvasLines o v) y (record { text = []; column = 0 }) in
-      ap (λ (l : List ℕ). afterFirst (trimEnd (part (contentAt g (b .frame) y) l)) y (0 + (byteAt g y (b .frame .left) + 1)) (given .column + b .frame .left + 1) .text) text-is
-      ∙ ap (λ (l : List ℕ). afterFirst (trimEnd l) y (0 + (byteAt g y (b .frame .left) + 1)) (given .column + b .frame .left + 1) .text) part-is
+      ap (λ (l : List ℕ). afterFirst (trimEnd (part (contentAt g (b .frame) y) l)) y (0 + (byteAt g y (b .frame .left) + 1)) (given .column + b .frame .left + 1) .text) canvasLines-text
+      ∙ ap (λ (l : List ℕ). afterFirst (trimEnd l) y (0 + (byteAt g y (b .frame .left) + 1)) (given .column + b .frame .left + 1) .text) part-inner
       ∙ inner-cut (getD (b .lines) (y - b .frame .top - 1) []) (b .frame .right - b .frame .left - 2 - textColumns o b y) y (0 + (byteAt g y (b .frame .left) + 1)) (given .column + b .frame .left + 1) h
 
   -- ---- at a column inside
@@ -111,15 +111,15 @@ module _ {v : Canvas} (L : Lined v) (o : ℕ) {b : Box} (m : List·Memᴰ b (v .
 
   to-text : Spans o (Before ++ space ∷ text) end
   to-text =
-      spans-append {a = Before} {b = space ∷ text} (left-spans (L .written) o y low m u w)
-      (spans-append {a = space ∷ []} {b = text} (spans-single (o + (b .frame .left + 1)) single-space) (spans-text o b y (L .written .texts b m (y - b .frame .top - 1))))
+      spans-append {a = Before} {b = space ∷ text} (flat-left (L .written) o y low m u w)
+      (spans-append {a = space ∷ []} {b = text} (spans-single (o + (b .frame .left + 1)) single-space) (text-spans o b y (L .written .texts b m (y - b .frame .top - 1))))
 
   inner-is : innerLine o b y ≡ (space ∷ text) ++ replicate (b .frame .right - b .frame .left - 2 - n) space
   unfolding innerLine
   inner-is = refl
 
   row-text : flat o v y 0 (canvasWidth v) ≡ (Before ++ space ∷ text) ++ (replicate (b .frame .right - b .frame .left - 2 - n) space ++ rest)
-  row-text = row-is (L .written) o y low m u w ∙ ap (λ (r : List ℕ). Before ++ (r ++ rest)) inner-is ∙ simp append-assoc
+  row-text = flat-around (L .written) o y low m u w ∙ ap (λ (r : List ℕ). Before ++ (r ++ rest)) inner-is ∙ simp append-assoc
 
   -- a slot behind the text is a space's
   module _ (c : ℕ) (i : end ≤ c) (j : c < b .frame .right) where
@@ -138,9 +138,9 @@ module _ {v : Canvas} (L : Lined v) (o : ℕ) {b : Box} (m : List·Memᴰ b (v .
     past-text : vertical (glyphAt g y c) ≡ false
     unfolding slotAt glyphOf
     past-text =
-        ap (λ (l : List Slot). vertical (getD l c (record { glyph = Other; byte = 0 }) .glyph)) (line-slots L o y low ∙ ap (λ (r : List ℕ). slotsFrom (ruleAt o v y) o (charIndices r)) row-pad)
+        ap (λ (l : List Slot). vertical (getD l c (record { glyph = Other; byte = 0 }) .glyph)) (rows-flat L o y low ∙ ap (λ (r : List ℕ). slotsFrom (ruleAt o v y) o (charIndices r)) row-pad)
         ∙ ap (λ (z : Slot). vertical (z .glyph)) (slot-head (ruleAt o v y) (replicate (b .frame .right - c - 1) space ++ rest) (record { glyph = Other; byte = 0 }) to-pad single-space)
-        ∙ ap (λ (r : Bool). vertical (glyphOf r space)) (inner-rule L o m y u w)
+        ∙ ap (λ (r : Bool). vertical (glyphOf r space)) (ruleAt-inner L o m y u w)
 
   -- a slot of the text begins in it
   in-text : (c : ℕ) → c < end → byteAt g y c < length Before + suc (length text)
@@ -150,7 +150,7 @@ module _ {v : Canvas} (L : Lined v) (o : ℕ) {b : Box} (m : List·Memᴰ b (v .
       let rule = ruleAt o v y in
       let pad = replicate (b .frame .right - b .frame .left - 2 - n) space ++ rest in
       let front = slotsFrom rule o (charIndices (Before ++ space ∷ text)) in
-      let e = line-slots L o y low ∙ ap (λ (r : List ℕ). slotsFrom rule o (charIndices r)) row-text ∙ slots-at rule pad to-text in
+      let e = rows-flat L o y low ∙ ap (λ (r : List ℕ). slotsFrom rule o (charIndices r)) row-text ∙ slots-at rule pad to-text in
       let many = slots-count rule to-text in
       let k = List·getD-append front (slotsFrom rule (o + end) (charsFrom (length (Before ++ space ∷ text)) 0 pad)) d c (omega arith) in
       omega (
@@ -172,21 +172,21 @@ module _ {v : Canvas} (L : Lined v) (o : ℕ) {b : Box} (m : List·Memᴰ b (v .
   tail-space = (_, refl)
 
   -- cut at a column that stands in the text as a border would, the line is shorter than it is
-  pub cut-shorter : (c : ℕ) → b .frame .left < c → c < b .frame .right → vertical (glyphAt g y c) ≡ true
+  pub cutAt-shorter : (c : ℕ) → b .frame .left < c → c < b .frame .right → vertical (glyphAt g y c) ≡ true
       → length (cutAt (canvasLines o v) g (rect (b .frame .top) (b .frame .left) (b .frame .bottom) c) y .text) < length text
   unfolding cut
-  cut-shorter c i j h =
+  cutAt-shorter c i j h =
       let early : c < end = ⊎-elim (λ (k : end ≤ c). absurd (true-not-false (sym h ∙ past-text c k j))) (λ k. k) (le-or-lt end c) in
-      let q : b .frame .left + 1 ≡ c → ⊥ = λ e. true-not-false (sym h ∙ ap (λ (z : ℕ). vertical (glyphAt g y z)) (sym e) ∙ ap vertical (gap-glyph L o m y u w)) in
+      let q : b .frame .left + 1 ≡ c → ⊥ = λ e. true-not-false (sym h ∙ ap (λ (z : ℕ). vertical (glyphAt g y z)) (sym e) ∙ ap vertical (glyphAt-gap L o m y u w)) in
       let far : b .frame .left + 1 < c = ⊎-elim (λ e. absurd (q e)) (λ k. k) (eq-or-lt-of-le {n = b .frame .left + 1} {m = c} (omega arith)) in
       let some-text : 0 < length text = ⊎-elim (λ (k : length text ≤ 0). absurd (omega (arith, empty-text (omega arith)))) (λ k. k) (le-or-lt (length text) 0) in
       let B = byteAt g y (b .frame .left) + 1 in
       let D = byteAt g y c in
       let given = getD (canvasLines o v) y (record { text = []; column = 0 }) in
-      let start = left-byte in
+      let start = byteAt-left in
       let r = tail-space in
       let tail : drop B (given .text) ≡ space ∷ r .0 =
-      ap (drop B) (text-is ∙ row-is (L .written) o y low m u w) ∙ ap (λ (k : ℕ). drop k (Before ++ (innerLine o b y ++ rest))) start ∙ drop-append-seam Before (innerLine o b y ++ rest) ∙ r .1 in
+      ap (drop B) (canvasLines-text ∙ flat-around (L .written) o y low m u w) ∙ ap (λ (k : ℕ). drop k (Before ++ (innerLine o b y ++ rest))) start ∙ drop-append-seam Before (innerLine o b y ++ rest) ∙ r .1 in
       let made : cutAt (canvasLines o v) g (rect (b .frame .top) (b .frame .left) (b .frame .bottom) c) y .text
       ≡ afterFirst (trimEnd (take (D - B) (space ∷ r .0))) y (0 + B) (given .column + b .frame .left + 1) .text =
       ap (λ (l : List ℕ). afterFirst (trimEnd (take (D - B) l)) y (0 + B) (given .column + b .frame .left + 1) .text) tail in

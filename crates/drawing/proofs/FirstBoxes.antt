@@ -54,9 +54,9 @@ module _ {g : Grid} {q : Rect} (h : Bordered g q) (gap : (y : ℕ) → q .top < 
       }
 
   -- the cell, unless it splits
-  pub whole-first : splits g q ≡ false → First g q
+  pub unsplit-first : splits g q ≡ false → First g q
   unfolding splits
-  whole-first s =
+  unsplit-first s =
       first-at (q .right) h
       (λ x u w. any-none (splitsAt g q) s (mem-range (q .left + 1) (q .right - q .left - 1) x (omega arith) (omega arith)))
 
@@ -96,9 +96,9 @@ module _ {g : Grid} {q : Rect} (h : Bordered g q) (gap : (y : ℕ) → q .top < 
     pub first : First g (rect (q .top) (q .left) (q .bottom) column)
 
   -- and if it splits, the part up to the first such column
-  pub part-first : splits g q ≡ true → Part
+  pub split-first : splits g q ≡ true → Part
   unfolding splits
-  part-first s =
+  split-first s =
       let f = first-in (splitsAt g q) (q .left + 1) (q .right - q .left - 1) s in
       let u : q .left < f .at = omega (arith, f .low) in
       let w : f .at < q .right = omega (arith, f .high, h .leftBeforeRight) in

@@ -21,23 +21,23 @@ use Rattle.grid.specs.Slots.{Grid, Slot, Plus, Other, dash, equals, pipe, horiz
 use Rattle.grid.specs.Cover.{Bordered}
 use Rattle.grid.proofs.SlotLaws.{row-at}
 use Rattle.drawing.specs.Plain.{Box, Canvas, canvasWidth, canvasHeight, cornerAt, horizontalAt, alignmentRow, colonAt, borderByte, drawnLine, canvasLines}
-use Rattle.drawing.proofs.BoxLaws.{Sized, Tiled, border, End, end-or-within, is-corner, is-horizontal, is-vertical, horizontal-of, corner-border, horizontal-border, vertical-border, once}
-use Rattle.drawing.proofs.RowLaws.{edgeByte, flat, line-text, border-slot, trimmed, gap-slot}
-use Rattle.drawing.proofs.RuleRows.{Side, colonIn, Lined, rule-line, other-line, flat-clear}
+use Rattle.drawing.proofs.BoxLaws.{Sized, Tiled, border, End, end-or-within, box-cornerAt, box-horizontalAt, box-verticalAt, horizontalAt-box, cornerAt-border, horizontalAt-border, verticalAt-border, same-box}
+use Rattle.drawing.proofs.RowLaws.{edgeByte, flat, drawnLine-text, flat-border-slot, flat-trimmed, flat-gap-slot}
+use Rattle.drawing.proofs.RuleRows.{Side, colonIn, Lined, flat-rule, flat-no-rule, flat-clear}
 
 -- the drawing of a canvas
 module _ (o : ℕ) (v : Canvas) where
-  pub lines-length : length (canvasLines o v) ≡ canvasHeight v
+  pub canvasLines-length : length (canvasLines o v) ≡ canvasHeight v
   unfolding canvasLines
-  lines-length = length-map (upTo (canvasHeight v)) (drawnLine o v) ∙ length-range 0 (canvasHeight v)
+  canvasLines-length = length-map (upTo (canvasHeight v)) (drawnLine o v) ∙ length-range 0 (canvasHeight v)
 
-  pub line-is : (y : ℕ) (d : Line) → y < canvasHeight v → getD (canvasLines o v) y d ≡ drawnLine o v y
+  pub canvasLines-at : (y : ℕ) (d : Line) → y < canvasHeight v → getD (canvasLines o v) y d ≡ drawnLine o v y
   unfolding canvasLines
-  line-is y d u = getD-made (drawnLine o v) (canvasHeight v) y d u
+  canvasLines-at y d u = getD-made (drawnLine o v) (canvasHeight v) y d u
 
-  line-column : (y : ℕ) → drawnLine o v y .column ≡ o
+  drawnLine-column : (y : ℕ) → drawnLine o v y .column ≡ o
   unfolding drawnLine
-  line-column y = refl
+  drawnLine-column y = refl
 
   -- is line y read as a rule
   abbrev pub ruleAt : ℕ → Bool
@@ -59,23 +59,23 @@ module _ {v : Canvas} (L : Lined v) (o : ℕ) where
   P : Tiled v
   P = L .written .tiled
 
-  pub trimmed-line : (y : ℕ) → y < H → trimmedAt lines y ≡ flat o v y 0 W
-  trimmed-line y u =
-      ap (λ (l : Line). trimEnd (l .text)) (line-is o v y (record { text = []; column = 0 }) u) ∙ ap trimEnd (line-text o v y) ∙ trimmed (L .written) o y u
+  pub trimmedAt-flat : (y : ℕ) → y < H → trimmedAt lines y ≡ flat o v y 0 W
+  trimmedAt-flat y u =
+      ap (λ (l : Line). trimEnd (l .text)) (canvasLines-at o v y (record { text = []; column = 0 }) u) ∙ ap trimEnd (drawnLine-text o v y) ∙ flat-trimmed (L .written) o y u
 
   -- the slots of line y
-  pub line-slots : (y : ℕ) → y < H → getD (g .rows) y [] ≡ slotsFrom (ruleAt o v y) o (charIndices (flat o v y 0 W))
+  pub rows-flat : (y : ℕ) → y < H → getD (g .rows) y [] ≡ slotsFrom (ruleAt o v y) o (charIndices (flat o v y 0 W))
   unfolding lineSlots
-  line-slots y u =
-      row-at lines y (omega (arith, lines-length o v))
-      ∙ ap (λ (l : Line). lineSlots (ruleAt o v y) l) (line-is o v y (record { text = []; column = 0 }) u)
-      ∙ ap (λ (c : ℕ). slotsFrom (ruleAt o v y) c (charIndices (trimEnd (drawnLine o v y .text)))) (line-column o v y)
-      ∙ ap (λ (l : List ℕ). slotsFrom (ruleAt o v y) o (charIndices (trimEnd l))) (line-text o v y)
-      ∙ ap (λ (l : List ℕ). slotsFrom (ruleAt o v y) o (charIndices l)) (trimmed (L .written) o y u)
+  rows-flat y u =
+      row-at lines y (omega (arith, canvasLines-length o v))
+      ∙ ap (λ (l : Line). lineSlots (ruleAt o v y) l) (canvasLines-at o v y (record { text = []; column = 0 }) u)
+      ∙ ap (λ (c : ℕ). slotsFrom (ruleAt o v y) c (charIndices (trimEnd (drawnLine o v y .text)))) (drawnLine-column o v y)
+      ∙ ap (λ (l : List ℕ). slotsFrom (ruleAt o v y) o (charIndices (trimEnd l))) (drawnLine-text o v y)
+      ∙ ap (λ (l : List ℕ). slotsFrom (ruleAt o v y) o (charIndices l)) (flat-trimmed (L .written) o y u)
 
   pub grid-height : g .height ≡ H
   unfolding gridOf
-  grid-height = lines-length o v
+  grid-height = canvasLines-length o v
 
   pub zero-low : 0 < H
   zero-low = omega (arith, P .twoLines)
@@ -83,44 +83,44 @@ module _ {v : Canvas} (L : Lined v) (o : ℕ) where
   pub grid-width : g .width ≡ W
   unfolding gridOf
   grid-width =
-      ap length (trimmed-line 0 zero-low ∙ flat-clear L o 0 zero-low (λ b m p q. omega arith) W 0 (omega arith))
+      ap length (trimmedAt-flat 0 zero-low ∙ flat-clear L o 0 zero-low (λ b m p q. omega arith) W 0 (omega arith))
       ∙ length-map (range 0 W) (edgeByte v 0) ∙ length-range 0 W
 
   -- ---- which lines are read as rules
-  pub is-rule : (y : ℕ) → y < H → isSeparator lines y ≡ ltb 0 y && isRule equals (flat o v y 0 W)
+  pub isSeparator-flat : (y : ℕ) → y < H → isSeparator lines y ≡ ltb 0 y && isRule equals (flat o v y 0 W)
   unfolding isSeparator
-  is-rule y u = ap (λ (l : List ℕ). ltb 0 y && isRule equals l) (trimmed-line y u)
+  isSeparator-flat y u = ap (λ (l : List ℕ). ltb 0 y && isRule equals l) (trimmedAt-flat y u)
 
   in-rule : (y : ℕ) → y < H → any (eqb y) (v .rules) ≡ true → ruleAt o v y ≡ true
-  in-rule y u h = rw (is-rule y u, rule-line L o y u h) (go y) where
+  in-rule y u h = rw (isSeparator-flat y u, flat-rule L o y u h) (go y) where
     go : (y : ℕ) → eqb y 0 || ltb 0 y && true ≡ true
     go zero = refl
     go (suc y) = or-right (eqb (suc y) 0) (and-intro (lt-ltb 0 (suc y) (omega arith)) refl)
 
   no-rule : (y : ℕ) → y < H → (y ≡ 0 → ⊥) → any (eqb y) (v .rules) ≡ false → ruleAt o v y ≡ false
-  no-rule y u n h = rw (is-rule y u, other-line L o y u n h, ne-eqb y 0 n) (and-false (ltb 0 y))
+  no-rule y u n h = rw (isSeparator-flat y u, flat-no-rule L o y u n h, ne-eqb y 0 n) (and-false (ltb 0 y))
 
   -- ---- borders
-  pub border-at : (y x : ℕ) → y < H → x < W → border v y x ≡ true → slotAt g y x ≡ record { glyph = glyphOf (ruleAt o v y) (edgeByte v y x); byte = length (flat o v y 0 x) }
+  pub slotAt-border : (y x : ℕ) → y < H → x < W → border v y x ≡ true → slotAt g y x ≡ record { glyph = glyphOf (ruleAt o v y) (edgeByte v y x); byte = length (flat o v y 0 x) }
   unfolding slotAt
-  border-at y x u w e = rw (line-slots y u) (border-slot (L .written) o y u (ruleAt o v y) x _ w e)
+  slotAt-border y x u w e = rw (rows-flat y u) (flat-border-slot (L .written) o y u (ruleAt o v y) x _ w e)
 
-  glyph-is : (y x : ℕ) → y < H → x < W → border v y x ≡ true → glyphAt g y x ≡ glyphOf (ruleAt o v y) (edgeByte v y x)
-  glyph-is y x u w e = ap (λ (s : Slot). s .glyph) (border-at y x u w e)
+  glyphAt-border : (y x : ℕ) → y < H → x < W → border v y x ≡ true → glyphAt g y x ≡ glyphOf (ruleAt o v y) (edgeByte v y x)
+  glyphAt-border y x u w e = ap (λ (s : Slot). s .glyph) (slotAt-border y x u w e)
 
   plus-glyph : (r : Bool) → glyphOf r plus ≡ Plus
   unfolding glyphOf
   plus-glyph r = refl
 
-  corner-glyph : (y x : ℕ) → y < H → x < W → cornerAt v y x ≡ true → glyphAt g y x ≡ Plus
+  glyphAt-corner : (y x : ℕ) → y < H → x < W → cornerAt v y x ≡ true → glyphAt g y x ≡ Plus
   unfolding edgeByte
-  corner-glyph y x u w h = glyph-is y x u w (corner-border v y x h) ∙ rw h (plus-glyph (ruleAt o v y))
+  glyphAt-corner y x u w h = glyphAt-border y x u w (cornerAt-border v y x h) ∙ rw h (plus-glyph (ruleAt o v y))
 
   -- a border along a line is horizontal
-  across-glyph : (y x : ℕ) → y < H → x < W → horizontalAt v y x ≡ true → horizontal (glyphAt g y x) ≡ true
+  glyphAt-horizontal : (y x : ℕ) → y < H → x < W → horizontalAt v y x ≡ true → horizontal (glyphAt g y x) ≡ true
   unfolding edgeByte borderByte colonAt glyphOf
-  across-glyph y x u w h =
-      ap horizontal (glyph-is y x u w (horizontal-border v y x h))
+  glyphAt-horizontal y x u w h =
+      ap horizontal (glyphAt-border y x u w (horizontalAt-border v y x h))
       ∙ rw h (go (cornerAt v y x) (eqb y (alignmentRow v)) (colonIn v x) (any (eqb y) (v .rules)) refl refl) where
         plus-43 : (r : Bool) → horizontal (glyphOf r plus) ≡ true
         plus-43 r = refl
@@ -149,23 +149,23 @@ module _ {v : Canvas} (L : Lined v) (o : ℕ) where
         → c .frame .left < x → x < c .frame .right → End (c .frame .top) (c .frame .bottom) y → b ≡ c
     same-square {c} n y x u w (inl e) l r (inl d) =
         let z = P .sized c n in
-        once P m n {y = y} {x = x} (record { below = omega arith; above = w; after = omega arith; before = omega (arith, s .broad) })
+        same-box P m n {y = y} {x = x} (record { below = omega arith; above = w; after = omega arith; before = omega (arith, s .broad) })
         (record { below = omega arith; above = omega (arith, z .tall); after = omega arith; before = r })
     same-square {c} n y x u w (inl e) l r (inr d) =
         let z = P .sized c n in
-        once P m n {y = y - 1} {x = x} (record { below = omega arith; above = omega arith; after = omega arith; before = omega (arith, s .broad) })
+        same-box P m n {y = y - 1} {x = x} (record { below = omega arith; above = omega arith; after = omega arith; before = omega (arith, s .broad) })
         (record { below = omega (arith, z .tall); above = omega (arith, z .tall); after = omega arith; before = r })
     same-square {c} n y x u w (inr e) l r (inl d) =
         let z = P .sized c n in
-        once P m n {y = y} {x = x - 1} (record { below = omega arith; above = w; after = omega (arith, s .broad); before = omega (arith, s .broad) })
+        same-box P m n {y = y} {x = x - 1} (record { below = omega arith; above = w; after = omega (arith, s .broad); before = omega (arith, s .broad) })
         (record { below = omega arith; above = omega (arith, z .tall); after = omega arith; before = omega arith })
     same-square {c} n y x u w (inr e) l r (inr d) =
         let z = P .sized c n in
-        once P m n {y = y - 1} {x = x - 1} (record { below = omega arith; above = omega arith; after = omega (arith, s .broad); before = omega (arith, s .broad) })
+        same-box P m n {y = y - 1} {x = x - 1} (record { below = omega arith; above = omega arith; after = omega (arith, s .broad); before = omega (arith, s .broad) })
         (record { below = omega (arith, z .tall); above = omega (arith, z .tall); after = omega arith; before = omega arith })
 
     no-across : (y x : ℕ) → b .frame .top < y → y < b .frame .bottom → Side b x → horizontalAt v y x ≡ false
-    no-across y x u w d = refused (horizontalAt v y x) (λ h. let t = horizontal-of v y x h in clash (t .0) (t .1) (t .2) (t .3) (t .4)) where
+    no-across y x u w d = refused (horizontalAt v y x) (λ h. let t = horizontalAt-box v y x h in clash (t .0) (t .1) (t .2) (t .3) (t .4)) where
       clash : (c : Box) → List·Memᴰ c (v .boxes) → End (c .frame .top) (c .frame .bottom) y → c .frame .left < x → x < c .frame .right → ⊥
       clash c n e l r =
           let q = same-square n y x u w d l r e in
@@ -174,42 +174,42 @@ module _ {v : Canvas} (L : Lined v) (o : ℕ) where
           ⊎-elim (λ i. omega arith) (λ i. omega arith) d
 
     -- a line that runs inside the box is no rule
-    pub inner-rule : (y : ℕ) → b .frame .top < y → y < b .frame .bottom → ruleAt o v y ≡ false
-    inner-rule y u w = no-rule y (omega (arith, s .low)) (λ e. omega arith) (refused (any (eqb y) (v .rules)) (λ h. L .clear y h b m u w))
+    pub ruleAt-inner : (y : ℕ) → b .frame .top < y → y < b .frame .bottom → ruleAt o v y ≡ false
+    ruleAt-inner y u w = no-rule y (omega (arith, s .low)) (λ e. omega arith) (refused (any (eqb y) (v .rules)) (λ h. L .clear y h b m u w))
 
-    upright-glyph : (y x : ℕ) → b .frame .top < y → y < b .frame .bottom → Side b x → x < W → vertical (glyphAt g y x) ≡ true
+    glyphAt-vertical : (y x : ℕ) → b .frame .top < y → y < b .frame .bottom → Side b x → x < W → vertical (glyphAt g y x) ≡ true
     unfolding edgeByte glyphOf
-    upright-glyph y x u w d near =
-        ap vertical (glyph-is y x (omega (arith, s .low)) near (vertical-border v y x (is-vertical v m y x d u w)))
-        ∙ rw (no-across y x u w d, inner-rule y u w) (go (cornerAt v y x)) where
+    glyphAt-vertical y x u w d near =
+        ap vertical (glyphAt-border y x (omega (arith, s .low)) near (verticalAt-border v y x (box-verticalAt v m y x d u w)))
+        ∙ rw (no-across y x u w d, ruleAt-inner y u w) (go (cornerAt v y x)) where
           go : (t : Bool) → vertical (glyphOf false (cond t plus pipe)) ≡ true
           go true = refl
           go false = refl
 
     corner-here : (y x : ℕ) → End (b .frame .top) (b .frame .bottom) y → Side b x → glyphAt g y x ≡ Plus
     corner-here y x d e =
-        corner-glyph y x (⊎-elim (λ q. omega (arith, s .tall, s .low)) (λ q. omega (arith, s .low)) d) (⊎-elim (λ q. omega (arith, s .broad, s .near)) (λ q. omega (arith, s .near)) e)
-        (is-corner v m y x d e)
+        glyphAt-corner y x (⊎-elim (λ q. omega (arith, s .tall, s .low)) (λ q. omega (arith, s .low)) d) (⊎-elim (λ q. omega (arith, s .broad, s .near)) (λ q. omega (arith, s .near)) e)
+        (box-cornerAt v m y x d e)
 
     level-row : (y : ℕ) → End (b .frame .top) (b .frame .bottom) y → (x : ℕ) → b .frame .left ≤ x → x ≤ b .frame .right → horizontal (glyphAt g y x) ≡ true
     level-row y d x u w =
         ⊎-elim (λ e. ap horizontal (corner-here y x d e))
-        (λ e. across-glyph y x (⊎-elim (λ q. omega (arith, s .tall, s .low)) (λ q. omega (arith, s .low)) d) (omega (arith, s .near)) (is-horizontal v m y x d (e .0) (e .1)))
+        (λ e. glyphAt-horizontal y x (⊎-elim (λ q. omega (arith, s .tall, s .low)) (λ q. omega (arith, s .low)) d) (omega (arith, s .near)) (box-horizontalAt v m y x d (e .0) (e .1)))
         (end-or-within (b .frame .left) x (b .frame .right) u w)
 
     side-column : (x : ℕ) → Side b x → (y : ℕ) → b .frame .top ≤ y → y ≤ b .frame .bottom → vertical (glyphAt g y x) ≡ true
     side-column x d y u w =
         ⊎-elim (λ e. ap vertical (corner-here y x e d))
-        (λ e. upright-glyph y x (e .0) (e .1) d (⊎-elim (λ q. omega (arith, s .broad, s .near)) (λ q. omega (arith, s .near)) d))
+        (λ e. glyphAt-vertical y x (e .0) (e .1) d (⊎-elim (λ q. omega (arith, s .broad, s .near)) (λ q. omega (arith, s .near)) d))
         (end-or-within (b .frame .top) y (b .frame .bottom) u w)
 
     -- the first column inside is no border
-    pub gap-glyph : (y : ℕ) → b .frame .top < y → y < b .frame .bottom → glyphAt g y (b .frame .left + 1) ≡ Other
+    pub glyphAt-gap : (y : ℕ) → b .frame .top < y → y < b .frame .bottom → glyphAt g y (b .frame .left + 1) ≡ Other
     unfolding slotAt glyphOf
-    gap-glyph y u w =
-        ap (λ (l : List Slot). getD l (b .frame .left + 1) (record { glyph = Other; byte = 0 }) .glyph) (line-slots y (omega (arith, s .low)))
-        ∙ ap (λ (z : Slot). z .glyph) (gap-slot (L .written) o y (omega (arith, s .low)) m u w (ruleAt o v y) (record { glyph = Other; byte = 0 }))
-        ∙ ap (λ (r : Bool). glyphOf r space) (inner-rule y u w)
+    glyphAt-gap y u w =
+        ap (λ (l : List Slot). getD l (b .frame .left + 1) (record { glyph = Other; byte = 0 }) .glyph) (rows-flat y (omega (arith, s .low)))
+        ∙ ap (λ (z : Slot). z .glyph) (flat-gap-slot (L .written) o y (omega (arith, s .low)) m u w (ruleAt o v y) (record { glyph = Other; byte = 0 }))
+        ∙ ap (λ (r : Bool). glyphOf r space) (ruleAt-inner y u w)
 
     -- a box is bordered
     pub box-bordered : Bordered g (b .frame)

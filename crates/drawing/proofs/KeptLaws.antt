@@ -46,9 +46,9 @@ stays-lies t c h =
       low = leb-true _ _ (and-right (p && q && u) v h);
     }
 
-pub kept : (t : Table) → keepsRules t ≡ true → Kept t
+pub keepsRules-kept : (t : Table) → keepsRules t ≡ true → Kept t
 unfolding keepsRules inOrder allInside coverOnce allStart sectionsRun noneCrosses
-kept t h =
+keepsRules-kept t h =
     let a₁ = inOrder t in
     let a₂ = allInside t in
     let a₃ = coverOnce t in

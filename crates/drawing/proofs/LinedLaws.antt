@@ -25,11 +25,11 @@ use Rattle.drawing.specs.Sizes.{leastWidth, heights, widths, offsets}
 use Rattle.drawing.specs.Plain.{Box, Canvas, boxOf, ruleLines, canvasAt, canvasOf, canvasWidth, canvasHeight, cornerAt, alignmentRow, nextCorner, hasLeftColon, hasRightColon, drawsColon}
 use Rattle.seq.proofs.Finds.{FirstIn, first-in, range-any, find-first}
 use Rattle.drawing.proofs.OffsetLaws.{offsets-step, offsets-last}
-use Rattle.drawing.proofs.BoxLaws.{Tiled, near-square, end-or-within, is-corner, corner-of, holder}
+use Rattle.drawing.proofs.BoxLaws.{Tiled, near-square, end-or-within, box-cornerAt, cornerAt-box, box-at}
 use Rattle.drawing.proofs.RuleRows.{colonIn, Colon, Lined}
 use Rattle.drawing.proofs.KeptLaws.{Kept}
 use Rattle.drawing.proofs.SectionOrder.{rank, same-rank, heads, footAt, Parted, head-ends, foot-starts}
-use Rattle.drawing.proofs.CanvasLaws.{Fine, alignmentIn, xAt, yAt, cellBox, widths-length, heights-length, widths-least, width-is, height-is, box-cell, x-up, x-le, y-le, x-lt, y-lt, tiled, written, side-line, spaced}
+use Rattle.drawing.proofs.CanvasLaws.{Fine, alignmentIn, xAt, yAt, cellBox, widths-length, heights-length, widths-least, canvas-width, canvas-height, box-cell, xAt-up, xAt-le, yAt-le, xAt-lt, yAt-lt, canvas-tiled, canvas-written, side-xAt, canvas-spaced}
 
 -- ---- the lines that bear `=`
 abbrev OnRule : Table → ℕ → Type 0
@@ -37,23 +37,23 @@ OnRule t y =
     ((0 < heads (t .sections)) × (y ≡ yAt t (heads (t .sections))))
     ⊎ ((0 < count isFoot (t .sections)) × ((y ≡ yAt t (footAt (t .sections))) ⊎ (y ≡ yAt t (length (t .sections)))))
 
-pub last-line : (t : Table) → lastD (offsets (heights t)) 0 ≡ yAt t (length (t .sections))
-last-line t = offsets-last 0 (heights t) 0 ∙ ap (yAt t) (heights-length t)
+pub yAt-last : (t : Table) → lastD (offsets (heights t)) 0 ≡ yAt t (length (t .sections))
+yAt-last t = offsets-last 0 (heights t) 0 ∙ ap (yAt t) (heights-length t)
 
 positive : (n : ℕ) → eqb n 0 ≡ false → 0 < n
 positive zero e = absurd (true-not-false e)
 positive (suc n) e = omega arith
 
-pub in-rules : (t : Table) (y : ℕ) → any (eqb y) (canvasOf t .rules) ≡ true → OnRule t y
+pub rules-where : (t : Table) (y : ℕ) → any (eqb y) (canvasOf t .rules) ≡ true → OnRule t y
 unfolding canvasOf canvasAt ruleLines any
-in-rules t y h =
+rules-where t y h =
     go (eqb (heads (t .sections)) 0) (eqb (count isFoot (t .sections)) 0) refl refl h where
       one : (a : ℕ) → eqb y a || false ≡ true → y ≡ a
       one a e = eqb-true y a (⊎-elim (λ d. d) (λ d. absurd (true-not-false (sym d))) (or-cases (eqb y a) false e))
 
       two : eqb y (yAt t (footAt (t .sections))) || (eqb y (lastD (offsets (heights t)) 0) || false) ≡ true → (y ≡ yAt t (footAt (t .sections))) ⊎ (y ≡ yAt t (length (t .sections)))
       two k =
-          ⊎-elim (λ e. inl (eqb-true y _ e)) (λ e. inr (one (lastD (offsets (heights t)) 0) e ∙ last-line t))
+          ⊎-elim (λ e. inl (eqb-true y _ e)) (λ e. inr (one (lastD (offsets (heights t)) 0) e ∙ yAt-last t))
           (or-cases (eqb y (yAt t (footAt (t .sections)))) (eqb y (lastD (offsets (heights t)) 0) || false) k)
 
       go : (a b : Bool) → eqb (heads (t .sections)) 0 ≡ a → eqb (count isFoot (t .sections)) 0 ≡ b
@@ -87,7 +87,7 @@ module _ {t : Table} (F : Fine t) where
   v = canvasOf t
 
   P : Tiled v
-  P = tiled F
+  P = canvas-tiled F
 
   HE : Parted 1 ss (heads ss)
   HE = head-ends ss (U .run)
@@ -103,7 +103,7 @@ module _ {t : Table} (F : Fine t) where
 
   cell-crosses : {c : TableCell} → List·Memᴰ c (t .cells) → (i : ℕ) → i ≤ R → cellBox t c .frame .top < yAt t i → yAt t i < cellBox t c .frame .bottom → (c .row < i) × (i < c .row + c .rowspan)
   unfolding boxOf
-  cell-crosses {c} m i h u w = let s = U .lies c m in (y-lt F (c .row) i (omega (arith, s .low)) u, y-lt F i (c .row + c .rowspan) h w)
+  cell-crosses {c} m i h u w = let s = U .lies c m in (yAt-lt F (c .row) i (omega (arith, s .low)) u, yAt-lt F i (c .row + c .rowspan) h w)
 
   at-head : {c : TableCell} → List·Memᴰ c (t .cells) → cellBox t c .frame .top < yAt t (heads ss) → yAt t (heads ss) < cellBox t c .frame .bottom → ⊥
   at-head {c} m u w =
@@ -118,75 +118,75 @@ module _ {t : Table} (F : Fine t) where
   at-end : {c : TableCell} → List·Memᴰ c (t .cells) → cellBox t c .frame .top < yAt t R → yAt t R < cellBox t c .frame .bottom → ⊥
   at-end {c} m u w = let k = cell-crosses m R (le-refl _) u w in omega (arith, U .lies c m .low)
 
-  pub clear : (y : ℕ) → any (eqb y) (v .rules) ≡ true → (b : Box) → List·Memᴰ b (v .boxes) → b .frame .top < y → y < b .frame .bottom → ⊥
-  clear y h b m u w =
+  rules-clear : (y : ℕ) → any (eqb y) (v .rules) ≡ true → (b : Box) → List·Memᴰ b (v .boxes) → b .frame .top < y → y < b .frame .bottom → ⊥
+  rules-clear y h b m u w =
       let (c, n, made) = box-cell F m in
       let e = ap (λ (z : Box). z .frame .top) made in
       let d = ap (λ (z : Box). z .frame .bottom) made in
       ⊎-elim (λ p. at-head n (omega (arith, p .1)) (omega (arith, p .1)))
-      (λ p. ⊎-elim (λ q. at-foot n (omega arith) (omega arith)) (λ q. at-end n (omega arith) (omega arith)) (p .1)) (in-rules t y h)
+      (λ p. ⊎-elim (λ q. at-foot n (omega arith) (omega arith)) (λ q. at-end n (omega arith) (omega arith)) (p .1)) (rules-where t y h)
 
   -- ---- the alignment line
-  abbrev pub al : ℕ
+  abbrev al : ℕ
   al = alignmentRow (canvasOf t)
 
-  pub aligned : (al ≡ 0) ⊎ (any (eqb al) (v .rules) ≡ true)
-  aligned = first-in-rules (v .rules)
+  alignmentRow-rule : (al ≡ 0) ⊎ (any (eqb al) (v .rules) ≡ true)
+  alignmentRow-rule = first-in-rules (v .rules)
 
-  pub rule-low : (y : ℕ) → any (eqb y) (v .rules) ≡ true → y < canvasHeight v
-  rule-low y h =
-      ⊎-elim (λ p. low (heads ss) (HE .within) (p .1)) (λ p. ⊎-elim (low (footAt ss) (FS .within)) (low R (le-refl _)) (p .1)) (in-rules t y h) where
+  pub rules-low : (y : ℕ) → any (eqb y) (v .rules) ≡ true → y < canvasHeight v
+  rules-low y h =
+      ⊎-elim (λ p. low (heads ss) (HE .within) (p .1)) (λ p. ⊎-elim (low (footAt ss) (FS .within)) (low R (le-refl _)) (p .1)) (rules-where t y h) where
         low : (i : ℕ) → i ≤ R → y ≡ yAt t i → y < canvasHeight v
-        low i u e = omega (arith, height-is t, y-le F i R u (le-refl _))
+        low i u e = omega (arith, canvas-height t, yAt-le F i R u (le-refl _))
 
-  pub al-low : al < canvasHeight v
-  al-low = ⊎-elim (λ e. omega (arith, P .twoLines)) (rule-low al) aligned
+  pub alignmentRow-low : al < canvasHeight v
+  alignmentRow-low = ⊎-elim (λ e. omega (arith, P .twoLines)) (rules-low al) alignmentRow-rule
 
-  pub al-clear : (b : Box) → List·Memᴰ b (v .boxes) → b .frame .top < al → al < b .frame .bottom → ⊥
-  al-clear b m u w = ⊎-elim (λ e. omega arith) (λ h. clear al h b m u w) aligned
+  pub alignmentRow-clear : (b : Box) → List·Memᴰ b (v .boxes) → b .frame .top < al → al < b .frame .bottom → ⊥
+  alignmentRow-clear b m u w = ⊎-elim (λ e. omega arith) (λ h. rules-clear al h b m u w) alignmentRow-rule
 
-  last-corner : cornerAt v al (canvasWidth v - 1) ≡ true
-  last-corner =
-      let r = near-square 0 al (canvasHeight v - 1) (omega arith) (omega (arith, al-low)) (omega (arith, P .twoLines)) in
-      go (r .0) (r .3) (r .4) (holder P (r .0) (canvasWidth v - 2) (omega (arith, r)) (omega (arith, P .twoColumns))) where
+  cornerAt-last : cornerAt v al (canvasWidth v - 1) ≡ true
+  cornerAt-last =
+      let r = near-square 0 al (canvasHeight v - 1) (omega arith) (omega (arith, alignmentRow-low)) (omega (arith, P .twoLines)) in
+      go (r .0) (r .3) (r .4) (box-at P (r .0) (canvasWidth v - 2) (omega (arith, r)) (omega (arith, P .twoColumns))) where
         go : (y : ℕ) → y ≤ al → al ≤ suc y → (b : Box) × List·Memᴰ b (v .boxes) × Inside y (canvasWidth v - 2) (b .frame) → cornerAt v al (canvasWidth v - 1) ≡ true
         go y i j (b, m, q) =
-            is-corner v m al (canvasWidth v - 1)
-            (⊎-elim (λ d. d) (λ d. absurd (al-clear b m (d .0) (d .1))) (end-or-within (b .frame .top) al (b .frame .bottom) (omega (arith, q .below)) (omega (arith, q .above))))
+            box-cornerAt v m al (canvasWidth v - 1)
+            (⊎-elim (λ d. d) (λ d. absurd (alignmentRow-clear b m (d .0) (d .1))) (end-or-within (b .frame .top) al (b .frame .bottom) (omega (arith, q .below)) (omega (arith, q .above))))
             (inr (omega (arith, q .before, P .sized b m .near)))
 
   -- the next corner behind a column line that is not the last
   module _ (c : ℕ) (u : c < C) where
-    pub room : xAt t c + 1 < canvasWidth v
-    room = omega (arith, width-is t, x-up F c C u (le-refl _))
+    pub xAt-room : xAt t c + 1 < canvasWidth v
+    xAt-room = omega (arith, canvas-width t, xAt-up F c C u (le-refl _))
 
-    pub next : FirstIn (cornerAt v al) (xAt t c + 1) (canvasWidth v - (xAt t c + 1))
-    next =
+    pub cornerAfter : FirstIn (cornerAt v al) (xAt t c + 1) (canvasWidth v - (xAt t c + 1))
+    cornerAfter =
         first-in (cornerAt v al) (xAt t c + 1) (canvasWidth v - (xAt t c + 1))
-        (range-any (cornerAt v al) (xAt t c + 1) (canvasWidth v - (xAt t c + 1)) {x = canvasWidth v - 1} (omega (arith, room)) (omega (arith, room)) last-corner)
+        (range-any (cornerAt v al) (xAt t c + 1) (canvasWidth v - (xAt t c + 1)) {x = canvasWidth v - 1} (omega (arith, xAt-room)) (omega (arith, xAt-room)) cornerAt-last)
 
-    pub next-is : nextCorner v al (xAt t c) ≡ next .at
+    pub nextCorner-is : nextCorner v al (xAt t c) ≡ cornerAfter .at
     unfolding nextCorner
-    next-is = ap (orDefault 0) (find-first (cornerAt v al) (xAt t c + 1) (canvasWidth v - (xAt t c + 1)) (next .at) (next .low) (next .high) (next .before) (next .found))
+    nextCorner-is = ap (orDefault 0) (find-first (cornerAt v al) (xAt t c + 1) (canvasWidth v - (xAt t c + 1)) (cornerAfter .at) (cornerAfter .low) (cornerAfter .high) (cornerAfter .before) (cornerAfter .found))
 
     -- the next corner is a column line, so a column that is at least 3 wide lies before it
-    pub far : leastWidth (alignmentIn t c) ≡ 3 → xAt t c + 4 ≤ next .at
-    far wide =
-        let (b, m, _, side) = corner-of v al (next .at) (next .found) in
-        let (j, hj, e) = side-line F m (next .at) side in
-        let l = x-lt F c j (omega arith) (omega (arith, next .low)) in
-        omega (arith, x-le F (suc c) j l hj, offsets-step 0 (widths t) c (omega (arith, widths-length t)), widths-least t c u)
+    pub nextCorner-far : leastWidth (alignmentIn t c) ≡ 3 → xAt t c + 4 ≤ cornerAfter .at
+    nextCorner-far wide =
+        let (b, m, _, side) = cornerAt-box v al (cornerAfter .at) (cornerAfter .found) in
+        let (j, hj, e) = side-xAt F m (cornerAfter .at) side in
+        let l = xAt-lt F c j (omega arith) (omega (arith, cornerAfter .low)) in
+        omega (arith, xAt-le F (suc c) j l hj, offsets-step 0 (widths t) c (omega (arith, widths-length t)), widths-least t c u)
 
   -- ---- where a colon comes from
-  pub data Which (z c : ℕ) : Type 0 where
-    atLeft : hasLeftColon (alignmentIn t c) ≡ true → z ≡ xAt t c + 1 → Which z c
-    atRight : hasRightColon (alignmentIn t c) ≡ true → z + 1 ≡ nextCorner v al (xAt t c) → Which z c
+  pub data ColonOf (z c : ℕ) : Type 0 where
+    atLeft : hasLeftColon (alignmentIn t c) ≡ true → z ≡ xAt t c + 1 → ColonOf z c
+    atRight : hasRightColon (alignmentIn t c) ≡ true → z + 1 ≡ nextCorner v al (xAt t c) → ColonOf z c
 
-  pub record From (z : ℕ) : Type 0 where
+  pub record ColonFrom (z : ℕ) : Type 0 where
     pub column : ℕ
     pub inside : column < C
     pub corner : cornerAt v al (xAt t column) ≡ true
-    pub which : Which z column
+    pub which : ColonOf z column
 
   left-wide : (a : TableAlignment) → hasLeftColon a ≡ true → leastWidth a ≡ 3
   left-wide None e = absurd (true-not-false (sym e))
@@ -200,13 +200,13 @@ module _ {t : Table} (F : Fine t) where
   right-wide Right e = refl
   right-wide Center e = refl
 
-  pub which-wide : {z c : ℕ} → Which z c → leastWidth (alignmentIn t c) ≡ 3
-  which-wide {z} {c} (atLeft e q) = left-wide (alignmentIn t c) e
-  which-wide {z} {c} (atRight e q) = right-wide (alignmentIn t c) e
+  pub colon-wide : {z c : ℕ} → ColonOf z c → leastWidth (alignmentIn t c) ≡ 3
+  colon-wide {z} {c} (atLeft e q) = left-wide (alignmentIn t c) e
+  colon-wide {z} {c} (atRight e q) = right-wide (alignmentIn t c) e
 
-  draws : (z c : ℕ) → c < C → drawsColon v z c ≡ true → From z
+  drawsColon-from : (z c : ℕ) → c < C → drawsColon v z c ≡ true → ColonFrom z
   unfolding drawsColon canvasOf canvasAt
-  draws z c u e =
+  drawsColon-from z c u e =
       let l = hasLeftColon (alignmentIn t c) && eqb z (xAt t c + 1) in
       let r = hasRightColon (alignmentIn t c) && eqb z (nextCorner v al (xAt t c) - 1) in
       let k = cornerAt v al (xAt t c) in
@@ -218,7 +218,7 @@ module _ {t : Table} (F : Fine t) where
             ⊎-elim (λ (h : l ≡ true). atLeft (and-left (hasLeftColon (alignmentIn t c)) (eqb z (xAt t c + 1)) h) (eqb-true _ _ (and-right (hasLeftColon (alignmentIn t c)) (eqb z (xAt t c + 1)) h)))
             (λ (h : r ≡ true).
             atRight (and-left (hasRightColon (alignmentIn t c)) (eqb z (nextCorner v al (xAt t c) - 1)) h)
-            (omega (arith, eqb-true z (nextCorner v al (xAt t c) - 1) (and-right (hasRightColon (alignmentIn t c)) (eqb z (nextCorner v al (xAt t c) - 1)) h), next-is c u, next c u .low)))
+            (omega (arith, eqb-true z (nextCorner v al (xAt t c) - 1) (and-right (hasRightColon (alignmentIn t c)) (eqb z (nextCorner v al (xAt t c) - 1)) h), nextCorner-is c u, cornerAfter c u .low)))
             (or-cases l r (and-right k (l || r) e));
       }
 
@@ -230,40 +230,40 @@ module _ {t : Table} (F : Fine t) where
   unfolding canvasOf canvasAt
   columns-in c u = mem-range 0 (length (t .columns)) c (omega arith) (omega arith)
 
-  pub colon-from : (z : ℕ) → colonIn v z ≡ true → From z
-  colon-from z h = let (c, m, e) = any-mem (drawsColon v z) (upTo (length (v .columns))) h in draws z c (in-columns c m) e
+  pub colon-from : (z : ℕ) → colonIn v z ≡ true → ColonFrom z
+  colon-from z h = let (c, m, e) = any-mem (drawsColon v z) (upTo (length (v .columns))) h in drawsColon-from z c (in-columns c m) e
 
-  drawn : (z c : ℕ) → c < C → cornerAt v al (xAt t c) ≡ true → Which z c → drawsColon v z c ≡ true
+  from-drawsColon : (z c : ℕ) → c < C → cornerAt v al (xAt t c) ≡ true → ColonOf z c → drawsColon v z c ≡ true
   unfolding drawsColon canvasOf canvasAt
-  drawn z c u p (atLeft e q) =
+  from-drawsColon z c u p (atLeft e q) =
       and-intro p (or-left (hasRightColon (alignmentIn t c) && eqb z (nextCorner v al (xAt t c) - 1)) (and-intro e (eq-eqb z (xAt t c + 1) q)))
-  drawn z c u p (atRight e q) =
+  from-drawsColon z c u p (atRight e q) =
       and-intro p (or-right (hasLeftColon (alignmentIn t c) && eqb z (xAt t c + 1)) (and-intro e (eq-eqb z (nextCorner v al (xAt t c) - 1) (omega arith))))
 
-  pub from-colon : (z c : ℕ) → c < C → cornerAt v al (xAt t c) ≡ true → Which z c → colonIn v z ≡ true
-  from-colon z c u p w = mem-any (drawsColon v z) (columns-in c u) (drawn z c u p w)
+  pub from-colon : (z c : ℕ) → c < C → cornerAt v al (xAt t c) ≡ true → ColonOf z c → colonIn v z ≡ true
+  from-colon z c u p w = mem-any (drawsColon v z) (columns-in c u) (from-drawsColon z c u p w)
 
-  ends : (z c : ℕ) (u : c < C) → Which z c → (z ≡ xAt t c + 1) ⊎ (z + 1 ≡ next c u .at)
+  ends : (z c : ℕ) (u : c < C) → ColonOf z c → (z ≡ xAt t c + 1) ⊎ (z + 1 ≡ cornerAfter c u .at)
   ends z c u (atLeft e q) = inl q
-  ends z c u (atRight e q) = inr (q ∙ next-is c u)
+  ends z c u (atRight e q) = inr (q ∙ nextCorner-is c u)
 
-  colon-at : (z c : ℕ) → c < C → cornerAt v al (xAt t c) ≡ true → Which z c → Colon v z
+  colon-at : (z c : ℕ) → c < C → cornerAt v al (xAt t c) ≡ true → ColonOf z c → Colon v z
   colon-at z c u p w =
-      let n = next c u in
+      let n = cornerAfter c u in
       record {
         fromCorner = xAt t c;
         toCorner = n .at;
         starts = p;
         stops = n .found;
-        roomy = far c u (which-wide w);
+        roomy = nextCorner-far c u (colon-wide w);
         between = λ x i j. n .before x (omega arith) j;
         place = ends z c u w;
       }
 
-  colons : (z : ℕ) → colonIn v z ≡ true → Colon v z
-  colons z h =
+  colons-placed : (z : ℕ) → colonIn v z ≡ true → Colon v z
+  colons-placed z h =
       let f = colon-from z h in
       colon-at z (f .column) (f .inside) (f .corner) (f .which)
 
-  pub lined : Lined v
-  lined = record { written = written F; spaced = spaced F; clear = clear; colons = colons; aligned = aligned }
+  pub canvas-lined : Lined v
+  canvas-lined = record { written = canvas-written F; spaced = canvas-spaced F; clear = rules-clear; colons = colons-placed; aligned = alignmentRow-rule }

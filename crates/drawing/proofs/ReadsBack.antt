@@ -29,14 +29,14 @@ use Rattle.grid.specs.declared.TableAlignment.the-variants.{None, Left, Right, 
 use Rattle.grid.proofs.SlotLaws.{row-at, no-wrong-row}
 use Rattle.drawing.specs.Plain.{Canvas, canvasOf, canvasAt, canvasHeight, cornerAt, alignmentRow, hasLeftColon, hasRightColon, columnAlignment, leftColon, rightColon, canvasLines, drawn}
 use Rattle.drawing.specs.Redraw.{footWithoutHead, insideSegment, colonsMisplaced, misaligned, drawnTooLarge, splits, splitCell}
-use Rattle.drawing.proofs.RowLaws.{line-text, slots-width, whole-line}
-use Rattle.drawing.proofs.RuleRows.{first-line}
-use Rattle.drawing.proofs.CanvasLaws.{Fine, alignmentIn, xAt, cellBox, columns-are, cell-box, frames}
+use Rattle.drawing.proofs.RowLaws.{drawnLine-text, flat-slots, flat-spans}
+use Rattle.drawing.proofs.RuleRows.{flat-first-rule}
+use Rattle.drawing.proofs.CanvasLaws.{Fine, alignmentIn, xAt, cellBox, canvas-columns, cell-box, frames}
 use Rattle.drawing.proofs.CheckLaws.{drawnTooLarge-parts}
-use Rattle.drawing.proofs.GlyphRows.{lines-length, line-is, trimmed-line, line-slots, grid-width, zero-low}
+use Rattle.drawing.proofs.GlyphRows.{canvasLines-length, canvasLines-at, trimmedAt-flat, rows-flat, grid-width, zero-low}
 use Rattle.drawing.proofs.CellsBack.{lines, g, L, frames-traced, cells-same}
-use Rattle.drawing.proofs.SectionsBack.{Headed, headed, zero-free, sections-back}
-use Rattle.drawing.proofs.AlignmentsBack.{columns-count, column-back}
+use Rattle.drawing.proofs.SectionsBack.{Headed, headed, rules-below, sections-back}
+use Rattle.drawing.proofs.AlignmentsBack.{columns-length, alignment-back}
 use Rattle.drawing.proofs.SearchLaws.{misaligned-none, splitCell-none}
 use Rattle.drawing.proofs.SameDrawn.{bareColumn}
 
@@ -52,33 +52,33 @@ module _ {t : Table} (F : Fine t) (o : ℕ) where
   d = record { text = []; column = 0 }
 
   some-lines : isEmpty (lines F o) ≡ false
-  some-lines = length-some (lines F o) (omega (arith, lines-length o v, zero-low (L F o) o))
+  some-lines = length-some (lines F o) (omega (arith, canvasLines-length o v, zero-low (L F o) o))
 
   line-well : (y : ℕ) → y < H → wellFormed (getD (lines F o) y d .text) ≡ true
-  line-well y u = ap (λ (l : Line). wellFormed (l .text)) (line-is o v y d u) ∙ ap wellFormed (line-text o v y) ∙ whole-line (L F o .written) o y u .well
+  line-well y u = ap (λ (l : Line). wellFormed (l .text)) (canvasLines-at o v y d u) ∙ ap wellFormed (drawnLine-text o v y) ∙ flat-spans (L F o .written) o y u .well
 
   all-in-set : outsideSet (lines F o) ≡ none
   unfolding outsideSet
-  all-in-set = first-nowhere (λ (line : Line). not (wellFormed (line .text))) (lines F o) d (λ y h. ap not (line-well y (omega (arith, lines-length o v))))
+  all-in-set = first-nowhere (λ (line : Line). not (wellFormed (line .text))) (lines F o) d (λ y h. ap not (line-well y (omega (arith, canvasLines-length o v))))
 
   is-ruled : any (eqb 0) (v .rules) ≡ false → noRule (lines F o) ≡ false
   unfolding noRule
-  is-ruled z = ap (λ (l : List ℕ). not (isRule dash l)) (trimmed-line (L F o) o 0 (zero-low (L F o) o)) ∙ ap not (first-line (L F o) o z)
+  is-ruled z = ap (λ (l : List ℕ). not (isRule dash l)) (trimmedAt-flat (L F o) o 0 (zero-low (L F o) o)) ∙ ap not (flat-first-rule (L F o) o z)
 
   is-filled : wrongWidth (g F o) ≡ none
   is-filled =
       no-wrong-row (lines F o)
       (λ y h.
-      ap length (sym (row-at (lines F o) y h) ∙ line-slots (L F o) o y (omega (arith, lines-length o v)))
-      ∙ slots-width (L F o .written) o y (omega (arith, lines-length o v)) _ ∙ sym (grid-width (L F o) o))
+      ap length (sym (row-at (lines F o) y h) ∙ rows-flat (L F o) o y (omega (arith, canvasLines-length o v)))
+      ∙ flat-slots (L F o .written) o y (omega (arith, canvasLines-length o v)) _ ∙ sym (grid-width (L F o) o))
 
   module _ (unsplit : (c : TableCell) → List·Memᴰ c (t .cells) → splits (g F o) (cellBox t c .frame) ≡ false) where
-    abbrev pub back : Table
-    back = tableOf (lines F o) (layoutOf (lines F o) (g F o) (frames F))
+    abbrev pub readBack : Table
+    readBack = tableOf (lines F o) (layoutOf (lines F o) (g F o) (frames F))
 
-    pub reads : any (eqb 0) (v .rules) ≡ false → drawnTooLarge v (lines F o) ≡ false → readTable (lines F o) ≡ accept back
+    pub drawing-reads : any (eqb 0) (v .rules) ≡ false → drawnTooLarge v (lines F o) ≡ false → readTable (lines F o) ≡ accept readBack
     unfolding readTable readLayout readRects readGrid
-    reads z small =
+    drawing-reads z small =
         let parts = drawnTooLarge-parts v (lines F o) small in
         let narrow : ltb maxWidth (g F o .width) ≡ false = ap (ltb maxWidth) (grid-width (L F o) o) ∙ parts .0 in
         rw (some-lines, parts .1, all-in-set, is-ruled z, narrow, is-filled, frames-traced F o unsplit)
@@ -91,27 +91,27 @@ module _ {t : Table} (F : Fine t) (o : ℕ) where
     columns-same z keep =
         let e : GridTableColumn = record { alignment = None; width = 0 } in
         let read = columnsRead (lines F o) (g F o) (frames F) in
-        let n = columns-count F o unsplit in
+        let n = columns-length F o unsplit in
         ext-getD e (map bareColumn read) (map bareColumn (t .columns)) (length-map read bareColumn ∙ n ∙ sym (length-map (t .columns) bareColumn))
         (λ c h.
         let u : c < length (t .columns) = omega (arith, length-map read bareColumn) in
         getD-map bareColumn read c e e (omega arith)
-        ∙ ap (λ (a : TableAlignment). record { alignment = a; width = 0 }) (column-back F o unsplit z c u e ∙ keep c u)
+        ∙ ap (λ (a : TableAlignment). record { alignment = a; width = 0 }) (alignment-back F o unsplit z c u e ∙ keep c u)
         ∙ sym (getD-map bareColumn (t .columns) c e e u))
 
-    pub back-same : Headed F o → AlignmentsKept → Same back t
+    pub readBack-same : Headed F o → AlignmentsKept → Same readBack t
     unfolding normal tableOf layoutOf
-    back-same k keep =
-        let columns = columns-same (zero-free F o k) keep in
+    readBack-same k keep =
+        let columns = columns-same (rules-below F o k) keep in
         let sections = sections-back F o unsplit k in
         let cells = cells-same F o unsplit in
         λ i. record { columns = columns i; sections = sections i; cells = cells i }
 
 -- ---- what the later checks say
-kept-alignment : (t : Table) (c : ℕ) → colonsMisplaced (canvasOf t) c (columnAlignment (canvasOf t) c) ≡ false
+alignment-kept : (t : Table) (c : ℕ) → colonsMisplaced (canvasOf t) c (columnAlignment (canvasOf t) c) ≡ false
     → cond (cornerAt (canvasOf t) (alignmentRow (canvasOf t)) (xAt t c)) (alignmentIn t c) None ≡ alignmentIn t c
 unfolding canvasOf canvasAt
-kept-alignment t c h =
+alignment-kept t c h =
     go (cornerAt (canvasOf t) (alignmentRow (canvasOf t)) (xAt t c)) (alignmentIn t c) (insideSegment (canvasOf t) (leftColon (canvasOf t) c)) (insideSegment (canvasOf t) (rightColon (canvasOf t) c)) h where
       go : (b : Bool) (a : TableAlignment) (l r : Bool) → (hasLeftColon a || hasRightColon a) && (not b || hasLeftColon a && l || hasRightColon a && r) ≡ false → cond b a None ≡ a
       go true a l r e = refl
@@ -120,21 +120,21 @@ kept-alignment t c h =
       go false Right l r e = absurd (true-not-false e)
       go false Center l r e = absurd (true-not-false e)
 
-all-kept : (t : Table) → misaligned (canvasOf t) ≡ none → (c : ℕ) → c < length (t .columns)
+alignments-kept : (t : Table) → misaligned (canvasOf t) ≡ none → (c : ℕ) → c < length (t .columns)
     → cond (cornerAt (canvasOf t) (alignmentRow (canvasOf t)) (xAt t c)) (alignmentIn t c) None ≡ alignmentIn t c
-all-kept t h c u = kept-alignment t c (misaligned-none (canvasOf t) h c (rw (columns-are t) u))
+alignments-kept t h c u = alignment-kept t c (misaligned-none (canvasOf t) h c (rw (canvas-columns t) u))
 
-pub unsplit-all : {t : Table} (F : Fine t) (o : ℕ) → splitCell (canvasOf t) (g F o) ≡ none → (c : TableCell) → List·Memᴰ c (t .cells) → splits (g F o) (cellBox t c .frame) ≡ false
-unsplit-all {t} F o h c m = splitCell-none (canvasOf t) (g F o) h (cell-box F m)
+pub splitCell-unsplit : {t : Table} (F : Fine t) (o : ℕ) → splitCell (canvasOf t) (g F o) ≡ none → (c : TableCell) → List·Memᴰ c (t .cells) → splits (g F o) (cellBox t c .frame) ≡ false
+splitCell-unsplit {t} F o h c m = splitCell-none (canvasOf t) (g F o) h (cell-box F m)
 
 -- a table that passes the later checks too is read back
-passes-back : {t : Table} (F : Fine t) (o : ℕ) → footWithoutHead t ≡ false → misaligned (canvasOf t) ≡ none → drawnTooLarge (canvasOf t) (lines F o) ≡ false
+pub passes-readBack : {t : Table} (F : Fine t) (o : ℕ) → footWithoutHead t ≡ false → misaligned (canvasOf t) ≡ none → drawnTooLarge (canvasOf t) (lines F o) ≡ false
     → splitCell (canvasOf t) (g F o) ≡ none → (u : Table) × (readTable (lines F o) ≡ accept u) × Same u t
-passes-back {t} F o h₉ h₁₀ h₂ h₁₁ =
-    let unsplit = unsplit-all F o h₁₁ in
+passes-readBack {t} F o h₉ h₁₀ h₂ h₁₁ =
+    let unsplit = splitCell-unsplit F o h₁₁ in
     let k = headed F o h₉ in
-    (back F o unsplit, reads F o unsplit (zero-free F o k) h₂, back-same F o unsplit k (all-kept t h₁₀))
+    (readBack F o unsplit, drawing-reads F o unsplit (rules-below F o k) h₂, readBack-same F o unsplit k (alignments-kept t h₁₀))
 
-pub same-lines : (o : ℕ) (t : Table) → drawn o t ≡ canvasLines o (canvasOf t)
+pub drawn-lines : (o : ℕ) (t : Table) → drawn o t ≡ canvasLines o (canvasOf t)
 unfolding drawn
-same-lines o t = refl
+drawn-lines o t = refl

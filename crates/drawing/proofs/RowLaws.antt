@@ -26,7 +26,7 @@ use Rattle.seq.proofs.Finds.{find-only, find-nothing}
 use Rattle.text.proofs.SpanLaws.{Spans, Single, spans-empty, spans-cast, spans-append, spans-single, spans-spaces, single-space}
 use Rattle.grid.proofs.SpanSlotLaws.{slot-head, slots-count}
 use Rattle.drawing.proofs.MeasureLaws.{columns-measure}
-use Rattle.drawing.proofs.BoxLaws.{Within, Tiled, border, is-vertical, vertical-border, inside-between, between-inside, touches, free-corner, free-horizontal, free-vertical, free-border, classify}
+use Rattle.drawing.proofs.BoxLaws.{Within, Tiled, border, box-verticalAt, verticalAt-border, isInside-between, between-isInside, box-touched, inside-no-corner, inside-no-horizontal, inside-no-vertical, inside-no-border, border-or-inside}
 
 -- ---- what a box's lines must be
 pub record Fits (b : Box) (i : ℕ) : Type 0 where
@@ -42,22 +42,22 @@ pub record Written (v : Canvas) : Type 0 where
 abbrev pub textColumns : ℕ → Box → ℕ → ℕ
 textColumns o b y = columnsFrom (o + b .frame .left + 2) (charIndices (getD (b .lines) (y - b .frame .top - 1) []))
 
-pub text-fits : (o : ℕ) (b : Box) (y : ℕ) → Fits b (y - b .frame .top - 1) → textColumns o b y + b .frame .left + 2 ≤ b .frame .right
+text-fits : (o : ℕ) (b : Box) (y : ℕ) → Fits b (y - b .frame .top - 1) → textColumns o b y + b .frame .left + 2 ≤ b .frame .right
 text-fits o b y t = omega (arith, t .fits, columns-measure (o + b .frame .left + 2) (charIndices (getD (b .lines) (y - b .frame .top - 1) [])))
 
-pub spans-text : (o : ℕ) (b : Box) (y : ℕ) → Fits b (y - b .frame .top - 1) → Spans (o + (b .frame .left + 1) + 1) (getD (b .lines) (y - b .frame .top - 1) []) (textColumns o b y)
-spans-text o b y t = record { well = t .well; takes = ap (λ (c : ℕ). columnsFrom c (charIndices (getD (b .lines) (y - b .frame .top - 1) []))) (omega arith) }
+pub text-spans : (o : ℕ) (b : Box) (y : ℕ) → Fits b (y - b .frame .top - 1) → Spans (o + (b .frame .left + 1) + 1) (getD (b .lines) (y - b .frame .top - 1) []) (textColumns o b y)
+text-spans o b y t = record { well = t .well; takes = ap (λ (c : ℕ). columnsFrom c (charIndices (getD (b .lines) (y - b .frame .top - 1) []))) (omega arith) }
 
-pub spans-inner : (o : ℕ) (b : Box) (y : ℕ) → Fits b (y - b .frame .top - 1) → Spans (o + (b .frame .left + 1)) (innerLine o b y) (b .frame .right - (b .frame .left + 1))
+innerLine-spans : (o : ℕ) (b : Box) (y : ℕ) → Fits b (y - b .frame .top - 1) → Spans (o + (b .frame .left + 1)) (innerLine o b y) (b .frame .right - (b .frame .left + 1))
 unfolding innerLine
-spans-inner o b y t =
+innerLine-spans o b y t =
     let c : ℕ = o + (b .frame .left + 1) in
     let line : List ℕ = getD (b .lines) (y - b .frame .top - 1) [] in
     let n : ℕ = textColumns o b y in
     let k : ℕ = b .frame .right - b .frame .left - 2 - n in
     spans-cast {a = space ∷ line ++ replicate k space} (omega (arith, text-fits o b y t))
     (spans-append {a = space ∷ line} {b = replicate k space}
-    (spans-append {a = space ∷ []} {b = line} (spans-single c single-space) (spans-text o b y t)) (spans-spaces (c + (1 + n)) k))
+    (spans-append {a = space ∷ []} {b = line} (spans-single c single-space) (text-spans o b y t)) (spans-spaces (c + (1 + n)) k))
 
 -- ---- what a border's column puts down
 unfoldable pub edgeByte : Canvas → ℕ → ℕ → ℕ
@@ -67,17 +67,17 @@ single-cond : (t : Bool) {a b : ℕ} → Single a → Single b → Single (cond 
 single-cond true p q = p
 single-cond false p q = q
 
-pub single-edge : (v : Canvas) (y x : ℕ) → Single (edgeByte v y x)
+edgeByte-single : (v : Canvas) (y x : ℕ) → Single (edgeByte v y x)
 unfolding edgeByte borderByte
-single-edge v y x =
+edgeByte-single v y x =
     single-cond (cornerAt v y x) (record { low = omega arith; high = omega arith })
     (single-cond (horizontalAt v y x)
     (single-cond (colonAt v y x) (record { low = omega arith; high = omega arith }) (single-cond (any (eqb y) (v .rules)) (record { low = omega arith; high = omega arith }) (record { low = omega arith; high = omega arith })))
     (record { low = omega arith; high = omega arith }))
 
-pub put-border : (o : ℕ) (v : Canvas) (y x : ℕ) → border v y x ≡ true → putDown o v y x ≡ edgeByte v y x ∷ []
+pub putDown-border : (o : ℕ) (v : Canvas) (y x : ℕ) → border v y x ≡ true → putDown o v y x ≡ edgeByte v y x ∷ []
 unfolding putDown border edgeByte
-put-border o v y x h = go (cornerAt v y x) (horizontalAt v y x) (verticalAt v y x) h where
+putDown-border o v y x h = go (cornerAt v y x) (horizontalAt v y x) (verticalAt v y x) h where
   go : (s t u : Bool) → s || t || u ≡ true
       → cond s (plus ∷ []) (cond t (borderByte v y x ∷ []) (cond u (pipe ∷ []) (innerOf o y (startsInside v y x)))) ≡ cond s plus (cond t (borderByte v y x) pipe) ∷ []
   go true t u e = refl
@@ -90,7 +90,7 @@ unfoldable pub flat : ℕ → Canvas → ℕ → ℕ → ℕ → List ℕ
 flat o v y a n = flatMap (putDown o v y) (range a n)
 
 module _ (o : ℕ) (v : Canvas) (y : ℕ) where
-  pub flat-split : (a n m : ℕ) → flat o v y a (n + m) ≡ flat o v y a n ++ flat o v y (a + n) m
+  flat-split : (a n m : ℕ) → flat o v y a (n + m) ≡ flat o v y a n ++ flat o v y (a + n) m
   unfolding flat
   flat-split a n m = ap (flatMap (putDown o v y)) (range-split a n m) ∙ flatMap-append (putDown o v y) (range a n) (range (a + n) m)
 
@@ -104,7 +104,7 @@ module _ (o : ℕ) (v : Canvas) (y : ℕ) where
   unfolding flat flatMap range
   flat-next a n = refl
 
-  pub flat-zero : (a : ℕ) → flat o v y a 0 ≡ []
+  flat-zero : (a : ℕ) → flat o v y a 0 ≡ []
   unfolding flat flatMap range
   flat-zero a = refl
 
@@ -113,14 +113,14 @@ module _ (o : ℕ) (v : Canvas) (y : ℕ) where
   flat-empty a zero h = refl
   flat-empty a (suc n) h = rw (h a (le-refl a) (omega arith)) (flat-empty (a + 1) n (λ k u w. h k (omega arith) (omega arith)))
 
-  pub flat-one : (x : ℕ) → border v y x ≡ true → flat o v y x 1 ≡ edgeByte v y x ∷ []
+  flat-one : (x : ℕ) → border v y x ≡ true → flat o v y x 1 ≡ edgeByte v y x ∷ []
   unfolding flat flatMap range
-  flat-one x e = rw (put-border o v y x e)
+  flat-one x e = rw (putDown-border o v y x e)
 
   -- the drawn line is all of it
-  pub line-text : drawnLine o v y .text ≡ flat o v y 0 (canvasWidth v)
+  pub drawnLine-text : drawnLine o v y .text ≡ flat o v y 0 (canvasWidth v)
   unfolding drawnLine flat
-  line-text = refl
+  drawnLine-text = refl
 
 -- ---- a box's columns on a line that runs inside it
 module _ {v : Canvas} (P : Tiled v) (o : ℕ) {b : Box} (m : List·Memᴰ b (v .boxes)) (y : ℕ) (u : b .frame .top < y) (w : y < b .frame .bottom) where
@@ -131,8 +131,8 @@ module _ {v : Canvas} (P : Tiled v) (o : ℕ) {b : Box} (m : List·Memᴰ b (v .
   unfolding startsAt
   starts-touch x c n i h =
       let q : x ≡ c .frame .left + 1 = eqb-true _ _ (and-left (eqb x (c .frame .left + 1)) (isInside (c .frame .top) (c .frame .bottom) y) h) in
-      let k = inside-between (c .frame .top) (c .frame .bottom) y (and-right (eqb x (c .frame .left + 1)) (isInside (c .frame .top) (c .frame .bottom) y) h) in
-      sym (touches P m n y x i (record { top = omega (arith, k); bottom = omega (arith, k); left = omega arith; right = omega (arith, P .sized c n .broad) }))
+      let k = isInside-between (c .frame .top) (c .frame .bottom) y (and-right (eqb x (c .frame .left + 1)) (isInside (c .frame .top) (c .frame .bottom) y) h) in
+      sym (box-touched P m n y x i (record { top = omega (arith, k); bottom = omega (arith, k); left = omega arith; right = omega (arith, P .sized c n .broad) }))
 
   not-later : (x : ℕ) (c : Box) → b .frame .left + 1 < x → startsAt x c ≡ true → c ≡ b → ⊥
   unfolding startsAt
@@ -145,30 +145,30 @@ module _ {v : Canvas} (P : Tiled v) (o : ℕ) {b : Box} (m : List·Memᴰ b (v .
   found-here : startsInside v y (b .frame .left + 1) ≡ some b
   unfolding startsInside startsAt
   found-here =
-      find-only (startsAt (b .frame .left + 1)) m (and-intro (eq-eqb (b .frame .left + 1) (b .frame .left + 1) refl) (between-inside _ _ y u w))
+      find-only (startsAt (b .frame .left + 1)) m (and-intro (eq-eqb (b .frame .left + 1) (b .frame .left + 1) refl) (between-isInside _ _ y u w))
       (λ c n h. starts-touch (b .frame .left + 1) c n first-within h)
 
-  pub put-inner : putDown o v y (b .frame .left + 1) ≡ innerLine o b y
+  pub putDown-inner : putDown o v y (b .frame .left + 1) ≡ innerLine o b y
   unfolding putDown
-  put-inner =
+  putDown-inner =
       let x : ℕ = b .frame .left + 1 in
-      rw (free-corner P m y x first-within, free-horizontal P m y x first-within, free-vertical P m y x first-within, found-here)
+      rw (inside-no-corner P m y x first-within, inside-no-horizontal P m y x first-within, inside-no-vertical P m y x first-within, found-here)
 
   found-none : (x : ℕ) → Within b y x → b .frame .left + 1 < x → startsInside v y x ≡ none
   unfolding startsInside startsAt
   found-none x i k = find-nothing (startsAt x) (v .boxes) (λ c n. refused (startsAt x c) (λ h. not-later x c k h (starts-touch x c n i h)))
 
-  put-later : (x : ℕ) → b .frame .left + 1 < x → x < b .frame .right → putDown o v y x ≡ []
+  putDown-later : (x : ℕ) → b .frame .left + 1 < x → x < b .frame .right → putDown o v y x ≡ []
   unfolding putDown
-  put-later x k l =
+  putDown-later x k l =
       let i : Within b y x = record { top = u; bottom = w; left = omega arith; right = l } in
-      rw (free-corner P m y x i, free-horizontal P m y x i, free-vertical P m y x i, found-none x i k)
+      rw (inside-no-corner P m y x i, inside-no-horizontal P m y x i, inside-no-vertical P m y x i, found-none x i k)
 
-  pub left-border : border v y (b .frame .left) ≡ true
-  left-border = vertical-border v y _ (is-vertical v m y (b .frame .left) (inl refl) u w)
+  pub border-left : border v y (b .frame .left) ≡ true
+  border-left = verticalAt-border v y _ (box-verticalAt v m y (b .frame .left) (inl refl) u w)
 
-  pub right-border : border v y (b .frame .right) ≡ true
-  right-border = vertical-border v y _ (is-vertical v m y (b .frame .right) (inr refl) u w)
+  pub border-right : border v y (b .frame .right) ≡ true
+  border-right = verticalAt-border v y _ (box-verticalAt v m y (b .frame .right) (inr refl) u w)
 
   pub flat-inner : flat o v y (b .frame .left + 1) (b .frame .right - (b .frame .left + 1)) ≡ innerLine o b y
   flat-inner =
@@ -176,29 +176,29 @@ module _ {v : Canvas} (P : Tiled v) (o : ℕ) {b : Box} (m : List·Memᴰ b (v .
       let l : ℕ = b .frame .left in
       let n : ℕ = b .frame .right - l - 2 in
       let e : b .frame .right - (l + 1) ≡ suc n = omega (arith, s .broad) in
-      rw (e, flat-next, put-inner, flat-empty o v y (l + 1 + 1) n (λ k i j. put-later k (omega arith) (omega (arith, s .broad)))) (append-nil (innerLine o b y))
+      rw (e, flat-next, putDown-inner, flat-empty o v y (l + 1 + 1) n (λ k i j. putDown-later k (omega arith) (omega (arith, s .broad)))) (append-nil (innerLine o b y))
 
-  pub flat-box : flat o v y (b .frame .left) (b .frame .right - b .frame .left) ≡ edgeByte v y (b .frame .left) ∷ innerLine o b y
+  flat-box : flat o v y (b .frame .left) (b .frame .right - b .frame .left) ≡ edgeByte v y (b .frame .left) ∷ innerLine o b y
   flat-box =
       let s = P .sized b m in
       let l : ℕ = b .frame .left in
       let e : b .frame .right - l ≡ suc (b .frame .right - (l + 1)) = omega (arith, s .broad) in
-      rw (e, flat-next, put-border o v y l left-border, flat-inner)
+      rw (e, flat-next, putDown-border o v y l border-left, flat-inner)
 
 -- ---- from a border to a border, or to the end
 module _ {v : Canvas} (R : Written v) (o y : ℕ) (low : y < canvasHeight v) where
   abbrev P : Tiled v
   P = R .tiled
 
-  spans-box : {b : Box} (m : List·Memᴰ b (v .boxes)) → b .frame .top < y → y < b .frame .bottom
+  flat-box-spans : {b : Box} (m : List·Memᴰ b (v .boxes)) → b .frame .top < y → y < b .frame .bottom
       → Spans (o + b .frame .left) (flat o v y (b .frame .left) (b .frame .right - b .frame .left)) (b .frame .right - b .frame .left)
-  spans-box {b} m u w =
+  flat-box-spans {b} m u w =
       let s = P .sized b m in
       let c : ℕ = o + b .frame .left in
       let e : o + (b .frame .left + 1) ≡ c + 1 = omega arith in
       rw (flat-box P o m y u w)
       (spans-cast {a = edgeByte v y (b .frame .left) ∷ innerLine o b y} (omega (arith, s .broad))
-      (spans-append {a = edgeByte v y (b .frame .left) ∷ []} {b = innerLine o b y} (spans-single c (single-edge v y (b .frame .left))) (rw e at (spans-inner o b y (R .texts b m (y - b .frame .top - 1))))))
+      (spans-append {a = edgeByte v y (b .frame .left) ∷ []} {b = innerLine o b y} (spans-single c (edgeByte-single v y (b .frame .left))) (rw e at (innerLine-spans o b y (R .texts b m (y - b .frame .top - 1))))))
 
   here : (a c : ℕ) → a ≡ c → Spans (o + a) (flat o v y a (c - a)) (c - a)
   here a c e = let z : c - a ≡ 0 = omega arith in rw (z, flat-zero o v y a) (spans-empty (o + a))
@@ -212,15 +212,15 @@ module _ {v : Canvas} (R : Written v) (o y : ℕ) (low : y < canvasHeight v) whe
       (spans-cast {a = flat o v y a (k - a) ++ flat o v y k (c - k)} (omega arith) (spans-append {a = flat o v y a (k - a)} {b = flat o v y k (c - k)} p (rw e at q)))
 
   one-border : (k : ℕ) → border v y k ≡ true → Spans (o + k) (flat o v y k (suc k - k)) (suc k - k)
-  one-border k e = let z : suc k - k ≡ 1 = omega arith in rw (z, flat-one o v y k e) (spans-single (o + k) (single-edge v y k))
+  one-border k e = let z : suc k - k ≡ 1 = omega arith in rw (z, flat-one o v y k e) (spans-single (o + k) (edgeByte-single v y k))
 
   no-border : {b : Box} → List·Memᴰ b (v .boxes) → (x : ℕ) → Within b y x → border v y x ≡ true → ⊥
-  no-border m x i e = true-not-false (sym e ∙ free-border P m y x i)
+  no-border m x i e = true-not-false (sym e ∙ inside-no-border P m y x i)
 
   mid : (n a c : ℕ) → border v y a ≡ true → a ≤ c → c ≤ n → c ≤ canvasWidth v → (c ≡ canvasWidth v) ⊎ (border v y c ≡ true)
       → Spans (o + a) (flat o v y a (c - a)) (c - a)
   mid zero a c e u l w d = here a c (omega arith)
-  mid (suc n) a c e u l w d = ⊎-elim (here a c) (λ k. step k (classify P y (c - 1) low (omega arith)) (mid n a)) (eq-or-lt-of-le u) where
+  mid (suc n) a c e u l w d = ⊎-elim (here a c) (λ k. step k (border-or-inside P y (c - 1) low (omega arith)) (mid n a)) (eq-or-lt-of-le u) where
     step : a < c → (border v y (c - 1) ≡ true) ⊎ ((b : Box) × List·Memᴰ b (v .boxes) × Within b y (c - 1))
         → ((k : ℕ) → border v y a ≡ true → a ≤ k → k ≤ n → k ≤ canvasWidth v → (k ≡ canvasWidth v) ⊎ (border v y k ≡ true) → Spans (o + a) (flat o v y a (k - a)) (k - a))
         → Spans (o + a) (flat o v y a (c - a)) (c - a)
@@ -235,91 +235,91 @@ module _ {v : Canvas} (R : Written v) (o y : ℕ) (low : y < canvasHeight v) whe
         (eq-or-lt-of-le (omega (arith, i .right))) in
         let g : a ≤ b .frame .left =
         ⊎-elim (λ j. j) (λ j. absurd (no-border m a (record { top = i .top; bottom = i .bottom; left = j; right = omega (arith, i .right) }) e)) (le-or-lt a (b .frame .left)) in
-        let h = left-border P o m y (i .top) (i .bottom) in
+        let h = border-left P o m y (i .top) (i .bottom) in
         then a (b .frame .left) c g (omega (arith, i .left)) (ih (b .frame .left) e g (omega (arith, i .left)) (omega (arith, i .left)) (inr h))
-        (rw r at (spans-box m (i .top) (i .bottom)))
+        (rw r at (flat-box-spans m (i .top) (i .bottom)))
 
-  pub first-border : border v y 0 ≡ true
-  first-border = ⊎-elim (λ h. h) (λ t. absurd (omega (arith, t .2 .left))) (classify P y 0 low (omega (arith, P .twoColumns)))
+  pub border-first : border v y 0 ≡ true
+  border-first = ⊎-elim (λ h. h) (λ t. absurd (omega (arith, t .2 .left))) (border-or-inside P y 0 low (omega (arith, P .twoColumns)))
 
-  last-border : border v y (canvasWidth v - 1) ≡ true
-  last-border =
-      ⊎-elim (λ h. h) (λ t. absurd (omega (arith, t .2 .right, P .sized (t .0) (t .1) .near))) (classify P y (canvasWidth v - 1) low (omega (arith, P .twoColumns)))
+  border-last : border v y (canvasWidth v - 1) ≡ true
+  border-last =
+      ⊎-elim (λ h. h) (λ t. absurd (omega (arith, t .2 .right, P .sized (t .0) (t .1) .near))) (border-or-inside P y (canvasWidth v - 1) low (omega (arith, P .twoColumns)))
 
-  pub before : (x : ℕ) → x ≤ canvasWidth v → (x ≡ canvasWidth v) ⊎ (border v y x ≡ true) → Spans o (flat o v y 0 x) x
-  before x u d =
-      let s = mid x 0 x first-border (omega arith) (le-refl x) u d in
+  flat-before : (x : ℕ) → x ≤ canvasWidth v → (x ≡ canvasWidth v) ⊎ (border v y x ≡ true) → Spans o (flat o v y 0 x) x
+  flat-before x u d =
+      let s = mid x 0 x border-first (omega arith) (le-refl x) u d in
       let z : x - 0 ≡ x = omega arith in
       let a : o + 0 ≡ o = omega arith in
       rw a at (rw z at s)
 
-  pub whole-line : Spans o (flat o v y 0 (canvasWidth v)) (canvasWidth v)
-  whole-line = before (canvasWidth v) (le-refl _) (inl refl)
+  pub flat-spans : Spans o (flat o v y 0 (canvasWidth v)) (canvasWidth v)
+  flat-spans = flat-before (canvasWidth v) (le-refl _) (inl refl)
 
-  pub cut-at : (x : ℕ) → x ≤ canvasWidth v → flat o v y 0 (canvasWidth v) ≡ flat o v y 0 x ++ flat o v y x (canvasWidth v - x)
-  cut-at x u =
+  flat-parts : (x : ℕ) → x ≤ canvasWidth v → flat o v y 0 (canvasWidth v) ≡ flat o v y 0 x ++ flat o v y x (canvasWidth v - x)
+  flat-parts x u =
       let z : x - 0 ≡ x = omega arith in
       let a : canvasWidth v - 0 ≡ canvasWidth v = omega arith in
       rw a at (rw z at (flat-cut o v y 0 x (canvasWidth v) (omega arith) u))
 
   border-tail : (x : ℕ) → x < canvasWidth v → border v y x ≡ true → flat o v y x (canvasWidth v - x) ≡ edgeByte v y x ∷ flat o v y (x + 1) (canvasWidth v - (x + 1))
-  border-tail x u e = let z : canvasWidth v - x ≡ suc (canvasWidth v - (x + 1)) = omega arith in rw (z, flat-next, put-border o v y x e)
+  border-tail x u e = let z : canvasWidth v - x ≡ suc (canvasWidth v - (x + 1)) = omega arith in rw (z, flat-next, putDown-border o v y x e)
 
   -- the slot at a border
-  pub border-slot : (rule : Bool) (x : ℕ) (d : Slot) → x < canvasWidth v → border v y x ≡ true
+  pub flat-border-slot : (rule : Bool) (x : ℕ) (d : Slot) → x < canvasWidth v → border v y x ≡ true
       → getD (slotsFrom rule o (charIndices (flat o v y 0 (canvasWidth v)))) x d ≡ record { glyph = glyphOf rule (edgeByte v y x); byte = length (flat o v y 0 x) }
-  border-slot rule x d u e =
-      rw (cut-at x (omega arith), border-tail x u e)
-      (slot-head rule (flat o v y (x + 1) (canvasWidth v - (x + 1))) d (before x (omega arith) (inr e)) (single-edge v y x))
+  flat-border-slot rule x d u e =
+      rw (flat-parts x (omega arith), border-tail x u e)
+      (slot-head rule (flat o v y (x + 1) (canvasWidth v - (x + 1))) d (flat-before x (omega arith) (inr e)) (edgeByte-single v y x))
 
   -- the number of slots
-  pub slots-width : (rule : Bool) → length (slotsFrom rule o (charIndices (flat o v y 0 (canvasWidth v)))) ≡ canvasWidth v
-  slots-width rule = slots-count rule whole-line
+  pub flat-slots : (rule : Bool) → length (slotsFrom rule o (charIndices (flat o v y 0 (canvasWidth v)))) ≡ canvasWidth v
+  flat-slots rule = slots-count rule flat-spans
 
   -- a drawn line ends in a border, and is trimmed as it stands
   kept-cond : (t : Bool) (a b : ℕ) → blank a ≡ false → blank b ≡ false → blank (cond t a b) ≡ false
   kept-cond true a b p q = p
   kept-cond false a b p q = q
 
-  edge-kept : (x : ℕ) → blank (edgeByte v y x) ≡ false
+  edgeByte-kept : (x : ℕ) → blank (edgeByte v y x) ≡ false
   unfolding edgeByte borderByte
-  edge-kept x =
+  edgeByte-kept x =
       kept-cond (cornerAt v y x) _ _ refl
       (kept-cond (horizontalAt v y x) _ _ (kept-cond (colonAt v y x) _ _ refl (kept-cond (any (eqb y) (v .rules)) _ _ refl refl)) refl)
 
-  pub border-next : (x : ℕ) → border v y x ≡ true → flat o v y 0 (x + 1) ≡ flat o v y 0 x ++ edgeByte v y x ∷ []
-  border-next x e =
+  pub flat-border : (x : ℕ) → border v y x ≡ true → flat o v y 0 (x + 1) ≡ flat o v y 0 x ++ edgeByte v y x ∷ []
+  flat-border x e =
       let z : 0 + x ≡ x = omega arith in
       flat-split o v y 0 x 1 ∙ ap (λ (l : List ℕ). flat o v y 0 x ++ l) (ap (λ (k : ℕ). flat o v y k 1) z ∙ flat-one o v y x e)
 
-  pub trimmed : trimEnd (flat o v y 0 (canvasWidth v)) ≡ flat o v y 0 (canvasWidth v)
-  trimmed =
+  pub flat-trimmed : trimEnd (flat o v y 0 (canvasWidth v)) ≡ flat o v y 0 (canvasWidth v)
+  flat-trimmed =
       let e : canvasWidth v - 1 + 1 ≡ canvasWidth v = omega (arith, P .twoColumns) in
-      let l : flat o v y 0 (canvasWidth v) ≡ flat o v y 0 (canvasWidth v - 1) ++ edgeByte v y (canvasWidth v - 1) ∷ [] = rw e at (border-next (canvasWidth v - 1) last-border) in
-      rw l (trim-kept (flat o v y 0 (canvasWidth v - 1)) (edgeByte v y (canvasWidth v - 1)) (edge-kept (canvasWidth v - 1)))
+      let l : flat o v y 0 (canvasWidth v) ≡ flat o v y 0 (canvasWidth v - 1) ++ edgeByte v y (canvasWidth v - 1) ∷ [] = rw e at (flat-border (canvasWidth v - 1) border-last) in
+      rw l (trim-kept (flat o v y 0 (canvasWidth v - 1)) (edgeByte v y (canvasWidth v - 1)) (edgeByte-kept (canvasWidth v - 1)))
 
   -- ---- around a box that the line runs through
   module _ {b : Box} (m : List·Memᴰ b (v .boxes)) (u : b .frame .top < y) (w : y < b .frame .bottom) where
-    pub left-spans : Spans o (flat o v y 0 (b .frame .left + 1)) (b .frame .left + 1)
-    left-spans =
+    pub flat-left : Spans o (flat o v y 0 (b .frame .left + 1)) (b .frame .left + 1)
+    flat-left =
         let s = P .sized b m in
         let l : ℕ = b .frame .left in
-        rw (border-next l (left-border P o m y u w))
-        (spans-append {a = flat o v y 0 l} {b = edgeByte v y l ∷ []} (before l (omega (arith, s .near, s .broad)) (inr (left-border P o m y u w))) (spans-single (o + l) (single-edge v y l)))
+        rw (flat-border l (border-left P o m y u w))
+        (spans-append {a = flat o v y 0 l} {b = edgeByte v y l ∷ []} (flat-before l (omega (arith, s .near, s .broad)) (inr (border-left P o m y u w))) (spans-single (o + l) (edgeByte-single v y l)))
 
-    pub inner-tail : flat o v y (b .frame .left + 1) (canvasWidth v - (b .frame .left + 1)) ≡ innerLine o b y ++ flat o v y (b .frame .right) (canvasWidth v - b .frame .right)
-    inner-tail =
+    flat-from-inner : flat o v y (b .frame .left + 1) (canvasWidth v - (b .frame .left + 1)) ≡ innerLine o b y ++ flat o v y (b .frame .right) (canvasWidth v - b .frame .right)
+    flat-from-inner =
         let s = P .sized b m in
         flat-cut o v y (b .frame .left + 1) (b .frame .right) (canvasWidth v) (omega (arith, s .broad)) (omega (arith, s .near))
         ∙ ap (λ (r : List ℕ). r ++ flat o v y (b .frame .right) (canvasWidth v - b .frame .right)) (flat-inner P o m y u w)
 
     -- the whole line: up to the box, its inner line, and what follows its right border
-    pub row-is : flat o v y 0 (canvasWidth v) ≡ flat o v y 0 (b .frame .left + 1) ++ (innerLine o b y ++ flat o v y (b .frame .right) (canvasWidth v - b .frame .right))
-    row-is =
+    pub flat-around : flat o v y 0 (canvasWidth v) ≡ flat o v y 0 (b .frame .left + 1) ++ (innerLine o b y ++ flat o v y (b .frame .right) (canvasWidth v - b .frame .right))
+    flat-around =
         let s = P .sized b m in
-        cut-at (b .frame .left + 1) (omega (arith, s .near, s .broad)) ∙ ap (λ (r : List ℕ). flat o v y 0 (b .frame .left + 1) ++ r) inner-tail
+        flat-parts (b .frame .left + 1) (omega (arith, s .near, s .broad)) ∙ ap (λ (r : List ℕ). flat o v y 0 (b .frame .left + 1) ++ r) flat-from-inner
 
-    pub gap-slot : (rule : Bool) (d : Slot)
+    pub flat-gap-slot : (rule : Bool) (d : Slot)
         → getD (slotsFrom rule o (charIndices (flat o v y 0 (canvasWidth v)))) (b .frame .left + 1) d ≡ record { glyph = glyphOf rule space; byte = length (flat o v y 0 (b .frame .left + 1)) }
     unfolding innerLine
-    gap-slot rule d = rw row-is (slot-head rule _ d left-spans single-space)
+    flat-gap-slot rule d = rw flat-around (slot-head rule _ d flat-left single-space)

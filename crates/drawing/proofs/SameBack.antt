@@ -38,13 +38,13 @@ use Rattle.drawing.specs.GridRules.{isHead, isFoot}
 use Rattle.drawing.specs.Plain.{Box, Canvas, boxOf, canvasOf, canvasAt, cornerAt, alignmentRow, hasLeftColon, hasRightColon, columnAlignment}
 use Rattle.drawing.specs.Redraw.{footWithoutHead, colonsMisplaced, misaligned, drawnTooLarge, splitsAt, splits, splitCell}
 use Rattle.drawing.proofs.ReadRules.{cell, table-cells}
-use Rattle.drawing.proofs.CanvasLaws.{Fine, alignmentIn, xAt, cellBox, columns-are, box-cell, cell-box, cell-sized, frames, frames-are}
-use Rattle.drawing.proofs.GlyphRows.{grid-width, gap-glyph}
+use Rattle.drawing.proofs.CanvasLaws.{Fine, alignmentIn, xAt, cellBox, canvas-columns, box-cell, cell-box, cell-sized, frames, frames-cells}
+use Rattle.drawing.proofs.GlyphRows.{grid-width, glyphAt-gap}
 use Rattle.drawing.proofs.FirstBoxes.{Part}
-use Rattle.drawing.proofs.CutBoxes.{cut-shorter}
-use Rattle.drawing.proofs.CellsBack.{lines, g, L, tiles, cell-bordered, cell-first, cell-part, frames-traced}
-use Rattle.drawing.proofs.SectionsBack.{Headed, zero-free}
-use Rattle.drawing.proofs.AlignmentsBack.{misplaced-is, columns-count, column-back}
+use Rattle.drawing.proofs.CutBoxes.{cutAt-shorter}
+use Rattle.drawing.proofs.CellsBack.{lines, g, L, frames-tiles, cell-bordered, cell-first, cell-part, frames-traced}
+use Rattle.drawing.proofs.SectionsBack.{Headed, rules-below}
+use Rattle.drawing.proofs.AlignmentsBack.{colonsMisplaced-is, columns-length, alignment-back}
 use Rattle.drawing.proofs.SearchLaws.{misaligned-nowhere, splitCell-nowhere}
 use Rattle.drawing.proofs.SameDrawn.{bareColumn}
 
@@ -71,12 +71,12 @@ module _ {t : Table} (F : Fine t) (o : ℕ) (rs : List Rect) (checks : Passed (l
     pre-in {c} m = subst (λ (l : List TableCell). List·Memᴰ c l) (sym e) (Memᴰ·append-left (k ∷ post) m)
 
     frames-split : frames F ≡ map frame pre ++ frame k ∷ map frame post
-    frames-split = frames-are F ∙ ap (map frame) e ∙ map-append frame pre (k ∷ post)
+    frames-split = frames-cells F ∙ ap (map frame) e ∙ map-append frame pre (k ∷ post)
 
     pre-first : (q : Rect) → List·Memᴰ q (map frame pre) → First (g F o) q
     pre-first q m = let (c, n, made) = Memᴰ·of-map frame pre m in subst (First (g F o)) made (cell-first F o (pre-in n) (h c n))
 
-    P : Part (cell-bordered F o k-in) (gap-glyph (L F o) o (cell-box F k-in))
+    P : Part (cell-bordered F o k-in) (glyphAt-gap (L F o) o (cell-box F k-in))
     P = cell-part F o k-in s
 
     -- what is traced in the cell's place
@@ -86,8 +86,8 @@ module _ {t : Table} (F : Fine t) (o : ℕ) (rs : List Rect) (checks : Passed (l
     traced-so : (more : List Rect) × (rs ≡ map frame pre ++ p ∷ more)
     unfolding p
     traced-so =
-        tiles-prefix (tiles F o) cover (map frame pre) (map frame post) (frame k) frames-split
-        (tiles-first-traced (tiles F o) cover (map frame pre) (frame k ∷ map frame post) frames-split pre-first) (P .first) refl refl order
+        tiles-prefix (frames-tiles F o) cover (map frame pre) (map frame post) (frame k) frames-split
+        (tiles-first-traced (frames-tiles F o) cover (map frame pre) (frame k ∷ map frame post) frames-split pre-first) (P .first) refl refl order
 
     p-in : List·Memᴰ p rs
     p-in = let (more, q) = traced-so in subst (λ (l : List Rect). List·Memᴰ p l) (sym q) (Memᴰ·append-right (map frame pre) (List·Memᴰ·head refl))
@@ -148,7 +148,7 @@ module _ {t : Table} (F : Fine t) (o : ℕ) (rs : List Rect) (checks : Passed (l
     shorter =
         let q = frame k in
         let z : q .top + 1 - q .top - 1 ≡ 0 = omega arith in
-        rw z at (cut-shorter (L F o) o (cell-box F k-in) (q .top + 1) (omega arith) (omega (arith, cell-sized F k-in .tall)) (P .column) (P .after) (P .before) upright)
+        rw z at (cutAt-shorter (L F o) o (cell-box F k-in) (q .top + 1) (omega arith) (omega (arith, cell-sized F k-in .tall)) (P .column) (P .after) (P .before) upright)
 
     differs : ⊥
     differs =
@@ -177,9 +177,9 @@ module _ {t : Table} (F : Fine t) (o : ℕ) (rs : List Rect) (checks : Passed (l
         let d : GridTableColumn = record { alignment = None; width = 0 } in
         let read = columnsRead (lines F o) (g F o) (frames F) in
         let all : map bareColumn read ≡ map bareColumn (t .columns) = ap (λ (q : List Rect). map bareColumn (columnsRead (lines F o) (g F o) q)) (sym traced-frames) ∙ columns-same in
-        sym (column-back F o unsplit (zero-free F o k) c u d)
+        sym (alignment-back F o unsplit (rules-below F o k) c u d)
         ∙ ap (λ (a : GridTableColumn). a .alignment)
-        (sym (getD-map bareColumn read c d d (omega (arith, columns-count F o unsplit))) ∙ ap (λ (l : List GridTableColumn). getD l c d) all ∙ getD-map bareColumn (t .columns) c d d u)
+        (sym (getD-map bareColumn read c d d (omega (arith, columns-length F o unsplit))) ∙ ap (λ (l : List GridTableColumn). getD l c d) all ∙ getD-map bareColumn (t .columns) c d d u)
 
     no-colons : (b : Bool) (a : TableAlignment) → cond b a None ≡ a → (hasLeftColon a || hasRightColon a) && not b ≡ false
     no-colons true a e = and-false (hasLeftColon a || hasRightColon a)
@@ -190,23 +190,23 @@ module _ {t : Table} (F : Fine t) (o : ℕ) (rs : List Rect) (checks : Passed (l
 
     not-misplaced : (c : ℕ) → c < length (t .columns) → colonsMisplaced v c (columnAlignment v c) ≡ false
     unfolding canvasOf canvasAt
-    not-misplaced c u = misplaced-is F o c u (alignmentIn t c) ∙ no-colons (cornerAt v (alignmentRow v) (xAt t c)) (alignmentIn t c) (alignment-same c u)
+    not-misplaced c u = colonsMisplaced-is F o c u (alignmentIn t c) ∙ no-colons (cornerAt v (alignmentRow v) (xAt t c)) (alignmentIn t c) (alignment-same c u)
 
-    pub aligned : misaligned v ≡ none
-    aligned = misaligned-nowhere v (λ c u. not-misplaced c (rw (← (columns-are t)) u))
+    pub same-aligned : misaligned v ≡ none
+    same-aligned = misaligned-nowhere v (λ c u. not-misplaced c (rw (← (canvas-columns t)) u))
 
-  pub small : drawnTooLarge v (lines F o) ≡ false
+  pub same-small : drawnTooLarge v (lines F o) ≡ false
   unfolding drawnTooLarge
-  small = or-none (ap (ltb maxWidth) (sym (grid-width (L F o) o)) ∙ checks .notTooWide) (checks .notTooLarge)
+  same-small = or-none (ap (ltb maxWidth) (sym (grid-width (L F o) o)) ∙ checks .notTooWide) (checks .notTooLarge)
 
-  pub none-splits : splitCell v (g F o) ≡ none
-  none-splits =
+  pub same-unsplit : splitCell v (g F o) ≡ none
+  same-unsplit =
       splitCell-nowhere v (g F o)
       (λ b n.
       let (c, m, e) = box-cell F n in
       ap (λ (b : Box). splits (g F o) (b .frame)) (sym e) ∙ unsplit c m)
 
 -- no Foot without a Head, in one table and in another that is the same
-pub headed-same : (u t : Table) → Same u t → footWithoutHead u ≡ false → footWithoutHead t ≡ false
+pub same-headed : (u t : Table) → Same u t → footWithoutHead u ≡ false → footWithoutHead t ≡ false
 unfolding footWithoutHead normal
-headed-same u t s h = ap (λ (x : Table). any isFoot (x .sections) && not (any isHead (x .sections))) (sym s) ∙ h
+same-headed u t s h = ap (λ (x : Table). any isFoot (x .sections) && not (any isHead (x .sections))) (sym s) ∙ h

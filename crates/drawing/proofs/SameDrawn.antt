@@ -24,7 +24,7 @@ abbrev pub bareColumn : GridTableColumn → GridTableColumn
 bareColumn c = record { alignment = c .alignment; width = 0 }
 
 -- a canvas without declared widths
-abbrev pub bareCanvas : Canvas → Canvas
+abbrev bareCanvas : Canvas → Canvas
 bareCanvas v = record { xs = v .xs; ys = v .ys; boxes = v .boxes; rules = v .rules; columns = map bareColumn (v .columns) }
 
 bare-alignment : (cs : List GridTableColumn) (k : ℕ) → getD (map bareColumn cs) k (record { alignment = None; width = 0 }) .alignment
@@ -64,7 +64,7 @@ module _ (v : Canvas) where
       (flatMap-same (putDown o (bareCanvas v) y) (putDown o v y) (upTo (canvasWidth v)) (λ x m. bare-put o y x))
 
   -- What is drawn does not look at the declared widths.
-  pub bare-drawn : (o : ℕ) → canvasLines o (bareCanvas v) ≡ canvasLines o v
+  bare-drawn : (o : ℕ) → canvasLines o (bareCanvas v) ≡ canvasLines o v
   unfolding canvasLines
   bare-drawn o = map-same (drawnLine o (bareCanvas v)) (drawnLine o v) (upTo (canvasHeight v)) (λ y m. bare-line o y)
 

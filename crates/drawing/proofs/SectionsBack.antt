@@ -31,13 +31,13 @@ use Rattle.drawing.specs.Redraw.{footWithoutHead, splits}
 use Rattle.seq.proofs.Tests.{bool-cases}
 use Rattle.drawing.proofs.OffsetLaws.{offsets-zero}
 use Rattle.drawing.proofs.RowLaws.{flat}
-use Rattle.drawing.proofs.RuleRows.{Lined, rule-line, other-line}
+use Rattle.drawing.proofs.RuleRows.{Lined, flat-rule, flat-no-rule}
 use Rattle.drawing.proofs.KeptLaws.{Kept}
 use Rattle.drawing.proofs.SectionOrder.{head-is, body-is, foot-is, heads, footAt, Parted, head-ends, foot-starts, head-first}
-use Rattle.drawing.proofs.CanvasLaws.{Fine, yAt, cellBox, height-is, y-up, y-le, frames}
-use Rattle.drawing.proofs.LinedLaws.{last-line, in-rules, rule-low, lined}
-use Rattle.drawing.proofs.GlyphRows.{lines-length, is-rule, grid-height}
-use Rattle.drawing.proofs.CellsBack.{lines, g, cover, row-lines, ys-long}
+use Rattle.drawing.proofs.CanvasLaws.{Fine, yAt, cellBox, canvas-height, yAt-up, yAt-le, frames}
+use Rattle.drawing.proofs.LinedLaws.{yAt-last, rules-where, rules-low, canvas-lined}
+use Rattle.drawing.proofs.GlyphRows.{canvasLines-length, isSeparator-flat, grid-height}
+use Rattle.drawing.proofs.CellsBack.{lines, g, frames-cover, rowLines-back, ys-length}
 use Rattle.drawing.proofs.ReadRules.{table-rows, section-of}
 
 -- the rules once each, in order: without a Head, without a Foot
@@ -67,7 +67,7 @@ module _ {t : Table} (F : Fine t) (o : ℕ) where
   e = footAt (t .sections)
 
   L : Lined v
-  L = lined F
+  L = canvas-lined F
 
   U : Kept t
   U = F .rules
@@ -86,7 +86,7 @@ module _ {t : Table} (F : Fine t) (o : ℕ) where
 
   seps-same : (y : ℕ) → any (eqb y) sepsT ≡ any (eqb y) (v .rules)
   unfolding canvasOf canvasAt ruleLines seps any
-  seps-same y = rw (last-line t) (go (eqb h 0) (eqb n 0) (eqb (yAt t h) (yAt t e)) refl) where
+  seps-same y = rw (yAt-last t) (go (eqb h 0) (eqb n 0) (eqb (yAt t h) (yAt t e)) refl) where
     twice : (p q : Bool) → p || (q || false) ≡ p || (p || (q || false))
     twice true q = refl
     twice false q = refl
@@ -103,7 +103,7 @@ module _ {t : Table} (F : Fine t) (o : ℕ) where
   unfolding seps neighbours
   seps-rise = go (eqb h 0) (eqb n 0) (eqb (yAt t h) (yAt t e)) refl refl refl where
     last-up : eqb n 0 ≡ false → ltb (yAt t e) (yAt t R) ≡ true
-    last-up q = lt-ltb (yAt t e) (yAt t R) (omega (arith, y-up F e R (foot-some (omega (arith, eqb-false n 0 q))) (le-refl _)))
+    last-up q = lt-ltb (yAt t e) (yAt t R) (omega (arith, yAt-up F e R (foot-some (omega (arith, eqb-false n 0 q))) (le-refl _)))
 
     go : (a b c : Bool) → eqb h 0 ≡ a → eqb n 0 ≡ b → eqb (yAt t h) (yAt t e) ≡ c → neighbours ltb (seps a b (yAt t h) (yAt t e) (yAt t R)) ≡ true
     go true true c p q r = refl
@@ -114,43 +114,43 @@ module _ {t : Table} (F : Fine t) (o : ℕ) where
         rw r
         (and-intro
         (lt-ltb (yAt t h) (yAt t e)
-        (⊎-elim (λ (z : h ≡ e). absurd (eqb-false (yAt t h) (yAt t e) r (ap (yAt t) z))) (λ (z : h < e). omega (arith, y-up F h e z (FS .within)))
+        (⊎-elim (λ (z : h ≡ e). absurd (eqb-false (yAt t h) (yAt t e) r (ap (yAt t) z))) (λ (z : h < e). omega (arith, yAt-up F h e z (FS .within)))
         (eq-or-lt-of-le (head-first ss (U .run) (foot-some (omega (arith, eqb-false n 0 q)))))))
         (and-intro (last-up q) refl))
 
   -- ---- separators
   is-separator : any (eqb 0) (v .rules) ≡ false → (y : ℕ) → y < canvasHeight v → isSeparator (lines F o) y ≡ any (eqb y) (v .rules)
-  is-separator z y u = is-rule L o y u ∙ go y refl where
+  is-separator z y u = isSeparator-flat L o y u ∙ go y refl where
     go : (k : ℕ) → y ≡ k → ltb 0 y && isRule equals (flat o v y 0 (canvasWidth v)) ≡ any (eqb y) (v .rules)
     go zero q = rw q (sym z)
     go (suc k) q =
         let below : ltb 0 y ≡ true = lt-ltb 0 y (omega arith) in
-        rw below (⊎-elim (λ r. rule-line L o y u r ∙ sym r) (λ r. other-line L o y u (λ w. omega arith) r ∙ sym r) (bool-cases (any (eqb y) (v .rules))))
+        rw below (⊎-elim (λ r. flat-rule L o y u r ∙ sym r) (λ r. flat-no-rule L o y u (λ w. omega arith) r ∙ sym r) (bool-cases (any (eqb y) (v .rules))))
 
   separators-list : g F o .separators ≡ select (isSeparator (lines F o)) (upTo (length (lines F o)))
   unfolding gridOf
   separators-list = refl
 
-  separators-are : any (eqb 0) (v .rules) ≡ false → g F o .separators ≡ sepsT
-  separators-are z =
+  separators-back : any (eqb 0) (v .rules) ≡ false → g F o .separators ≡ sepsT
+  separators-back z =
       separators-list
       ∙ sorted-same ltb rising-strict (select (isSeparator (lines F o)) (upTo (length (lines F o)))) sepsT
       (select-sorted ltb rising-strict (isSeparator (lines F o)) (upTo (length (lines F o))) (range-rises 0 (length (lines F o)))) seps-rise there back where
         there : (y : ℕ) → List·Memᴰ y (select (isSeparator (lines F o)) (upTo (length (lines F o)))) → List·Memᴰ y sepsT
         there y m =
             let (k, q) = select-mem (isSeparator (lines F o)) (upTo (length (lines F o))) m in
-            let low : y < canvasHeight v = omega (arith, range-mem 0 (length (lines F o)) y k, lines-length o v) in
+            let low : y < canvasHeight v = omega (arith, range-mem 0 (length (lines F o)) y k, canvasLines-length o v) in
             any-eqb y sepsT (seps-same y ∙ sym (is-separator z y low) ∙ q)
 
         back : (y : ℕ) → List·Memᴰ y sepsT → List·Memᴰ y (select (isSeparator (lines F o)) (upTo (length (lines F o))))
         back y m =
             let q : any (eqb y) (v .rules) ≡ true = sym (seps-same y) ∙ eqb-any m in
-            let low : y < canvasHeight v = rule-low F y q in
-            mem-select (isSeparator (lines F o)) (mem-range 0 (length (lines F o)) y (omega arith) (omega (arith, lines-length o v))) (is-separator z y low ∙ q)
+            let low : y < canvasHeight v = rules-low F y q in
+            mem-select (isSeparator (lines F o)) (mem-range 0 (length (lines F o)) y (omega arith) (omega (arith, canvasLines-length o v))) (is-separator z y low ∙ q)
 
   first-same : firstOf sepsT ≡ firstOf (v .rules)
   unfolding canvasOf canvasAt ruleLines seps
-  first-same = rw (last-line t) (go (eqb h 0) (eqb n 0) (eqb (yAt t h) (yAt t e))) where
+  first-same = rw (yAt-last t) (go (eqb h 0) (eqb n 0) (eqb (yAt t h) (yAt t e))) where
     go : (a b c : Bool) → firstOf (seps a b (yAt t h) (yAt t e) (yAt t R)) ≡ firstOf (cond a [] (yAt t h ∷ []) ++ cond b [] (yAt t e ∷ yAt t R ∷ []))
     go true true c = refl
     go false true c = refl
@@ -161,8 +161,8 @@ module _ {t : Table} (F : Fine t) (o : ℕ) where
       both false = refl
 
   -- the alignment line that reading finds is the one that was drawn
-  pub alignment-line : any (eqb 0) (v .rules) ≡ false → alignmentLine (g F o) ≡ alignmentRow v
-  alignment-line z = ap (λ (l : List ℕ). orDefault 0 (firstOf l)) (separators-are z) ∙ ap (orDefault 0) first-same
+  pub alignmentLine-back : any (eqb 0) (v .rules) ≡ false → alignmentLine (g F o) ≡ alignmentRow v
+  alignmentLine-back z = ap (λ (l : List ℕ). orDefault 0 (firstOf l)) (separators-back z) ∙ ap (orDefault 0) first-same
 
   -- ---- Foot and Head
   abbrev pub Headed : Type 0
@@ -178,12 +178,12 @@ module _ {t : Table} (F : Fine t) (o : ℕ) where
     head z = refused (any isHead ss) (λ k. let (s, m, f) = any-mem isHead ss k in omega (arith, count-mem isHead m f))
 
   -- line 0 bears no `=`
-  pub zero-free : Headed → any (eqb 0) (v .rules) ≡ false
-  zero-free k =
+  pub rules-below : Headed → any (eqb 0) (v .rules) ≡ false
+  rules-below k =
       refused (any (eqb 0) (v .rules))
-      (λ r. ⊎-elim (λ p. up h (p .0) (HE .within) (p .1)) (λ p. ⊎-elim (λ q. up e (later (p .0)) (FS .within) q) (λ q. up R (F .someRow) (le-refl _) q) (p .1)) (in-rules t 0 r)) where
+      (λ r. ⊎-elim (λ p. up h (p .0) (HE .within) (p .1)) (λ p. ⊎-elim (λ q. up e (later (p .0)) (FS .within) q) (λ q. up R (F .someRow) (le-refl _) q) (p .1)) (rules-where t 0 r)) where
         up : (i : ℕ) → 0 < i → i ≤ R → 0 ≡ yAt t i → ⊥
-        up i a b q = omega (arith, y-up F 0 i a b)
+        up i a b q = omega (arith, yAt-up F 0 i a b)
 
         later : 0 < n → 0 < e
         later footed = omega (arith, k footed, head-first ss (U .run) (foot-some footed))
@@ -194,21 +194,21 @@ module _ {t : Table} (F : Fine t) (o : ℕ) where
   by-place i u =
       ⊎-elim
       (λ (p : h ≤ i).
-      rw (le-ltb _ _ (y-le F h i p (omega arith)))
-      (⊎-elim (λ (q : e ≤ i). rw (le-leb _ _ (y-le F e i q (omega arith))) (sym (foot-is (getD ss i Body) (FS .under i q u))))
-      (λ (q : i < e). rw (lt-leb (yAt t e) (yAt t i) (omega (arith, y-up F i e q (FS .within)))) (sym (body-is (getD ss i Body) (HE .under i p u) (FS .above i q)))) (le-or-lt e i)))
-      (λ (p : i < h). rw (lt-ltb (yAt t i) (yAt t h) (omega (arith, y-up F i h p (HE .within)))) (sym (head-is (getD ss i Body) (HE .above i p)))) (le-or-lt h i)
+      rw (le-ltb _ _ (yAt-le F h i p (omega arith)))
+      (⊎-elim (λ (q : e ≤ i). rw (le-leb _ _ (yAt-le F e i q (omega arith))) (sym (foot-is (getD ss i Body) (FS .under i q u))))
+      (λ (q : i < e). rw (lt-leb (yAt t e) (yAt t i) (omega (arith, yAt-up F i e q (FS .within)))) (sym (body-is (getD ss i Body) (HE .under i p u) (FS .above i q)))) (le-or-lt e i)))
+      (λ (p : i < h). rw (lt-ltb (yAt t i) (yAt t h) (omega (arith, yAt-up F i h p (HE .within)))) (sym (head-is (getD ss i Body) (HE .above i p)))) (le-or-lt h i)
 
   no-foot-test : eqb n 0 ≡ true → (i : ℕ) → i < R → leb (yAt t e) (yAt t i) ≡ false
   no-foot-test q i u =
       let z : e ≡ R = omega (arith, eqb-true n 0 q) in
-      rw z (lt-leb (yAt t R) (yAt t i) (omega (arith, y-up F i R u (le-refl _))))
+      rw z (lt-leb (yAt t R) (yAt t i) (omega (arith, yAt-up F i R u (le-refl _))))
 
   no-head-test : eqb h 0 ≡ true → (i : ℕ) → ltb (yAt t i) (yAt t h) ≡ false
   no-head-test q i = let z : yAt t h ≡ 0 = ap (yAt t) (eqb-true h 0 q) ∙ offsets-zero 0 (heights t) in le-ltb (yAt t i) (yAt t h) (omega arith)
 
   last-is : g F o .height - 1 ≡ yAt t R
-  last-is = omega (arith, grid-height L o, height-is t)
+  last-is = omega (arith, grid-height L o, canvas-height t)
 
   abbrev sectionBy : Option ℕ → Option ℕ → ℕ → GridTableSection
   sectionBy a b y = cond (isAbove y a) Head (cond (isFrom y b) Foot Body)
@@ -225,10 +225,10 @@ module _ {t : Table} (F : Fine t) (o : ℕ) where
     go false false true p q r = let z : yAt t e ≡ yAt t h = sym (eqb-true _ _ r) in rw (r, eq-eqb (yAt t R) (yAt t R) refl, z)
     go false false false p q r = rw (r, eq-eqb (yAt t R) (yAt t R) refl)
 
-  pub row-section : Headed → (i : ℕ) → i < R → sectionAt (g F o) (yAt t i) ≡ getD ss i Body
+  row-section : Headed → (i : ℕ) → i < R → sectionAt (g F o) (yAt t i) ≡ getD ss i Body
   unfolding sectionAt
   row-section k i u =
-      let s = separators-are (zero-free k) in
+      let s = separators-back (rules-below k) in
       ap (λ (l : List ℕ). sectionBy (firstOf l) (lastButOne (g F o .height - 1) l) (yAt t i)) s
       ∙ ap (λ (m : ℕ). sectionBy (firstOf sepsT) (lastButOne m sepsT) (yAt t i)) last-is
       ∙ section-by k i u
@@ -240,10 +240,10 @@ module _ {t : Table} (F : Fine t) (o : ℕ) where
     -- the sections read are the table's
     pub sections-back : Headed → tableOf (lines F o) (layoutOf (lines F o) (g F o) fs) .sections ≡ ss
     sections-back k =
-        let made = cover F o unsplit in
-        let rows = row-lines F o unsplit in
+        let made = frames-cover F o unsplit in
+        let rows = rowLines-back F o unsplit in
         let count-rows = table-rows (lines F o) (g F o) fs made in
-        let long : length (rowLines (g F o) fs) ≡ suc R = ap length rows ∙ ys-long F o unsplit in
+        let long : length (rowLines (g F o) fs) ≡ suc R = ap length rows ∙ ys-length F o unsplit in
         ext-getD Body (tableOf (lines F o) (layoutOf (lines F o) (g F o) fs) .sections) ss (omega arith)
         (λ i u.
         section-of (lines F o) (g F o) fs made i (omega arith) ∙ ap (λ (l : List ℕ). sectionAt (g F o) (getD l i 0)) rows ∙ row-section k i (omega arith))

@@ -23,10 +23,10 @@ use Rattle.drawing.proofs.OffsetLaws.{offsets-step}
 use Rattle.drawing.proofs.KeptLaws.{Kept}
 use Rattle.drawing.proofs.CanvasLaws.{Fine, alignmentIn, cellBox, widths-length, widths-least, frames}
 use Rattle.drawing.proofs.SameDrawn.{bareColumn, same-needs, same-drawn}
-use Rattle.drawing.proofs.CellsBack.{lines, g, column-lines, xs-long}
+use Rattle.drawing.proofs.CellsBack.{lines, g, columnLines-back, xs-length}
 use Rattle.drawing.proofs.SectionsBack.{Headed}
-use Rattle.drawing.proofs.AlignmentsBack.{columns-count}
-use Rattle.drawing.proofs.ReadsBack.{back, AlignmentsKept, back-same}
+use Rattle.drawing.proofs.AlignmentsBack.{columns-length}
+use Rattle.drawing.proofs.ReadsBack.{readBack, AlignmentsKept, readBack-same}
 
 module _ {t : Table} (U : Kept t) where
   width-asks : (n : Need) → List·Memᴰ n (map widthNeed (t .cells)) → Asks (length (map startWidth (t .columns))) n
@@ -53,8 +53,8 @@ module _ {t : Table} (F : Fine t) (o : ℕ) (unsplit : (c : TableCell) → List�
   width-back c u d =
       let nowhere : Between = record { from = 0; to = 0 } in
       let ls = columnLines (g F o) (frames F) in
-      let are = column-lines F o unsplit in
-      let long : length ls ≡ suc (length (t .columns)) = ap length are ∙ xs-long F o unsplit in
+      let are = columnLines-back F o unsplit in
+      let long : length ls ≡ suc (length (t .columns)) = ap length are ∙ xs-length F o unsplit in
       let b = getD (between ls) c nowhere in
       let here : b ≡ record { from = getD ls c 0; to = getD ls (c + 1) 0 } = between-at ls c nowhere (omega arith) in
       let from : b .from ≡ getD (offsets (widths t)) c 0 = ap (λ (z : Between). z .from) here ∙ ap (λ (l : List ℕ). getD l c 0) are in
@@ -69,13 +69,13 @@ module _ {t : Table} (F : Fine t) (o : ℕ) (unsplit : (c : TableCell) → List�
     alignment-read : (c : ℕ) → c < length (t .columns) → getD read c plain .alignment ≡ alignmentIn t c
     alignment-read c u =
         ap (λ (k : GridTableColumn). k .alignment)
-        (sym (getD-map bareColumn read c plain plain (omega (arith, columns-count F o unsplit)))
+        (sym (getD-map bareColumn read c plain plain (omega (arith, columns-length F o unsplit)))
         ∙ ap (λ (l : List GridTableColumn). getD l c plain) aligned
         ∙ getD-map bareColumn (t .columns) c plain plain u)
 
-    starts-back : map startWidth read ≡ widths t
-    starts-back =
-        let n = columns-count F o unsplit in
+    startWidths-back : map startWidth read ≡ widths t
+    startWidths-back =
+        let n = columns-length F o unsplit in
         ext-getD 0 (map startWidth read) (widths t) (length-map read startWidth ∙ n ∙ sym (widths-length t))
         (λ c h.
         let u : c < length (t .columns) = omega (arith, length-map read startWidth) in
@@ -86,16 +86,16 @@ module _ {t : Table} (F : Fine t) (o : ℕ) (unsplit : (c : TableCell) → List�
   -- ---- the table read back
   module _ (k : Headed F o) (keep : AlignmentsKept F o unsplit) where
     abbrev u : Table
-    u = back F o unsplit
+    u = readBack F o unsplit
 
     starts-same : map startWidth (u .columns) ≡ widths t
     unfolding normal tableOf layoutOf
-    starts-same = starts-back (ap (λ (x : Table). x .columns) (back-same F o unsplit k keep))
+    starts-same = startWidths-back (ap (λ (x : Table). x .columns) (readBack-same F o unsplit k keep))
 
-    pub back-widths : widths u ≡ widths t
+    pub readBack-widths : widths u ≡ widths t
     unfolding widths
-    back-widths = ap₂ fit starts-same (same-needs u t (back-same F o unsplit k keep)) ∙ widths-again (F .rules)
+    readBack-widths = ap₂ fit starts-same (same-needs u t (readBack-same F o unsplit k keep)) ∙ widths-again (F .rules)
 
     -- The table that reads back has the same drawing.
-    pub back-drawn : drawn o u ≡ drawn o t
-    back-drawn = same-drawn o u t (back-same F o unsplit k keep) back-widths
+    pub readBack-drawn : drawn o u ≡ drawn o t
+    readBack-drawn = same-drawn o u t (readBack-same F o unsplit k keep) readBack-widths

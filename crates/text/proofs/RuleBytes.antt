@@ -1,5 +1,5 @@
 -- A line that is given byte by byte. It is a rule where its bytes are a `Ruling` (`rule-of-bytes`), and none by its second byte
--- (`second-no-rule`) or by a colon and its third (`third-no-rule`). `toPlus-of-bytes`: its part up to the next `+`.
+-- (`second-no-rule`). `toPlus-of-bytes`: its part up to the next `+`.
 use Prim.Native.Nat.{ℕ, zero, suc, _+_, _-_, _≤_, _<_}
 use mathlib.Core.Path.{_≡_, refl, sym, ap, _∙_}
 use mathlib.Core.Bool.{Bool, true, false, _&&_}
@@ -198,17 +198,4 @@ module _ (fill z : ℕ) (notFill : z ≡ fill → ⊥) (notColon : z ≡ colon �
     closes (part ∷ next ∷ parts) = rw (ne-eqb z colon notColon, no-segment part)
 
     go : (t : Bool) (parts : List (List ℕ)) → t && closedSegments fill (ontoFirst z parts) ≡ false
-    go t parts = rw (closes parts) (and-false t)
-
--- ---- no rule, by a colon second and a wrong byte third
-module _ (fill z : ℕ) (notFill : z ≡ fill → ⊥) (notColon : z ≡ colon → ⊥) (notPlus : z ≡ plus → ⊥) where
-  pub third-no-rule : (b : ℕ) (rest : List ℕ) → isRule fill (b ∷ colon ∷ z ∷ rest) ≡ false
-  unfolding isRule partsAtPlus closedSegments isSegment
-  third-no-rule b rest = rw (ne-eqb z plus notPlus) (go (eqb b plus) (partsAtPlus rest)) where
-    closes : (parts : List (List ℕ)) → closedSegments fill (ontoFirst colon (ontoFirst z parts)) ≡ false
-    closes [] = refl
-    closes (part ∷ []) = refl
-    closes (part ∷ next ∷ parts) = rw (no-segment fill z notFill notColon notPlus part)
-
-    go : (t : Bool) (parts : List (List ℕ)) → t && closedSegments fill (ontoFirst colon (ontoFirst z parts)) ≡ false
     go t parts = rw (closes parts) (and-false t)

@@ -1,4 +1,5 @@
--- Alignments, read back: a column whose left border is a corner on the alignment line has its alignment, another has none.
+-- Alignments, read back: a column whose left border is a corner on the alignment line has its alignment, another has none
+-- (`alignment-back`, `columns-length`). `colonsMisplaced-is`: refusal 10 comes from missing corners alone.
 use Prim.Native.Nat.{ℕ, suc, _+_, _-_, _<_}
 use mathlib.Core.Path.{_≡_, refl, sym, ap, ap₂, subst, _∙_}
 use mathlib.Core.Bool.{Bool, true, false, not, _&&_, _||_, cond}

@@ -1,4 +1,5 @@
--- Boxes that hold every unit square once: each point of the canvas is a border's, or stands strictly inside one box.
+-- Boxes that hold every unit square once (`Tiled`): each point of the canvas is a border's or strictly inside one box
+-- (`border-or-inside`), strictly inside a box no border runs (`inside-no-border`), and one box holds a square (`box-at`, `same-box`).
 use Prim.Native.Nat.{ℕ, suc, _-_, _≤_, _<_}
 use mathlib.Core.Path.{_≡_, sym, ap, _∙_}
 use mathlib.Core.Bool.{Bool, true, false, _&&_, _||_}

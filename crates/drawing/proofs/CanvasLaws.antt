@@ -1,4 +1,5 @@
--- The canvas of a table that keeps the grid rules: its boxes hold every square once, stand in order, and their lines fit them.
+-- The canvas of a table that keeps the grid rules (`Fine`): its boxes hold every square once (`canvas-tiled`), their lines fit them
+-- (`canvas-written`), they stand in order (`frames-ordered`). `xAt` and `yAt` are its column and row lines, `cellBox` a cell's box.
 use Prim.Native.Nat.{ℕ, zero, suc, _+_, _≤_, _<_}
 use mathlib.Core.Path.{_≡_, refl, sym, ap, ap₂, subst, _∙_}
 use mathlib.Core.Bool.{true, _&&_}

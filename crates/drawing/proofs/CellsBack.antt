@@ -1,4 +1,5 @@
--- The tiles of a drawing, the lines that reading finds between them, and the cells that it reads back.
+-- Cells, read back. The boxes of a drawing are tiles (`frames-tiles`). Where none splits they are what is traced (`frames-traced`), the
+-- lines between them are the drawn ones (`columnLines-back`, `rowLines-back`), and the cells read are the same (`cells-same`).
 use Prim.Native.Nat.{ℕ, suc, _+_, _-_, _≤_, _<_}
 use mathlib.Core.Path.{_≡_, sym, ap, subst, _∙_}
 use mathlib.Core.Bool.{true, false}
@@ -6,13 +7,10 @@ use mathlib.Core.Logic.{_⊎_, inl, inr, ⊎-elim}
 use mathlib.Core.List.{List, [], map, map-map, List·Memᴰ, Memᴰ·map}
 use native.Mathlib.Omega.{arith}
 use native.Mathlib.Nat.{eq-or-lt-of-le}
-use lib.Dec.{ltb}
 use lib.ListN.{length, getD}
 use Rattle.seq.specs.Lists.{count}
 use Rattle.seq.proofs.Searches.{count-map}
 use Rattle.seq.proofs.Positions.{getD-mem}
-use Rattle.seq.proofs.Sorted.{sorted-same}
-use Rattle.seq.proofs.Rising.{rising-strict, position, position-at}
 use Rattle.seq.proofs.FlatMaps.{map-same}
 use Rattle.grid.specs.Values.{Line, Rect, TableCell, Table}
 use Rattle.grid.specs.Slots.{Grid, gridOf}
@@ -26,7 +24,7 @@ use Rattle.grid.proofs.CellLaws.{cutAt, cell-lines}
 use Rattle.drawing.specs.Sizes.{widths, heights, offsets}
 use Rattle.drawing.specs.Plain.{Box, Canvas, boxOf, canvasOf, canvasWidth, canvasHeight, canvasLines}
 use Rattle.drawing.specs.Redraw.{splits}
-use Rattle.drawing.proofs.OffsetLaws.{offsets-length, offsets-rise}
+use Rattle.drawing.proofs.OffsetLaws.{offsets-length, offsets-only, offsets-index}
 use Rattle.drawing.proofs.BoxLaws.{box-at}
 use Rattle.drawing.proofs.RuleRows.{Lined}
 use Rattle.drawing.proofs.KeptLaws.{Kept}
@@ -151,42 +149,28 @@ module _ {t : Table} (F : Fine t) (o : ℕ) where
 
     pub columnLines-back : columnLines g fs ≡ xs
     columnLines-back =
-        sorted-same ltb rising-strict (columnLines g fs) xs (columnLines-rise g fs) (offsets-rise 0 (widths t)) there back where
-          there : (x : ℕ) → List·Memᴰ x (columnLines g fs) → List·Memᴰ x xs
-          there x m =
-              let (q, n, d) = columnLines-edges frames-cover x .0 m in
-              let (c, k, e) = frame-cell F n in
-              on-x k x (⊎-elim (λ i. inl (i ∙ sym (ap (λ (z : Rect). z .left) e))) (λ i. inr (i ∙ sym (ap (λ (z : Rect). z .right) e))) d)
-
-          back : (x : ℕ) → List·Memᴰ x xs → List·Memᴰ x (columnLines g fs)
-          back x m =
-              let p = position xs (offsets-rise 0 (widths t)) m in
-              let (c, k, d) = x-edge (count (λ n. ltb n x) xs) (omega (arith, p .inside, xs-length)) in
-              columnLines-edges frames-cover x .1 (cellBox t c .frame, frame-in k, ⊎-elim (λ i. inl (sym (p .here) ∙ i)) (λ i. inr (sym (p .here) ∙ i)) d)
+        offsets-only (columnLines g fs) (widths t) (columnLines-rise g fs)
+        (λ x m.
+        let (q, n, d) = columnLines-edges frames-cover x .0 m in
+        let (c, k, e) = frame-cell F n in
+        on-x k x (⊎-elim (λ i. inl (i ∙ sym (ap (λ (z : Rect). z .left) e))) (λ i. inr (i ∙ sym (ap (λ (z : Rect). z .right) e))) d))
+        (λ j u. let (c, k, d) = x-edge j (omega (arith, widths-length t)) in columnLines-edges frames-cover (xAt t j) .1 (cellBox t c .frame, frame-in k, d))
 
     pub rowLines-back : rowLines g fs ≡ ys
     rowLines-back =
-        sorted-same ltb rising-strict (rowLines g fs) ys (rowLines-rise g fs) (offsets-rise 0 (heights t)) there back where
-          there : (y : ℕ) → List·Memᴰ y (rowLines g fs) → List·Memᴰ y ys
-          there y m =
-              let (q, n, d) = rowLines-edges frames-cover y .0 m in
-              let (c, k, e) = frame-cell F n in
-              on-y k y (⊎-elim (λ i. inl (i ∙ sym (ap (λ (z : Rect). z .top) e))) (λ i. inr (i ∙ sym (ap (λ (z : Rect). z .bottom) e))) d)
-
-          back : (y : ℕ) → List·Memᴰ y ys → List·Memᴰ y (rowLines g fs)
-          back y m =
-              let p = position ys (offsets-rise 0 (heights t)) m in
-              let (c, k, d) = y-edge (count (λ n. ltb n y) ys) (omega (arith, p .inside, ys-length)) in
-              rowLines-edges frames-cover y .1 (cellBox t c .frame, frame-in k, ⊎-elim (λ i. inl (sym (p .here) ∙ i)) (λ i. inr (sym (p .here) ∙ i)) d)
+        offsets-only (rowLines g fs) (heights t) (rowLines-rise g fs)
+        (λ y m.
+        let (q, n, d) = rowLines-edges frames-cover y .0 m in
+        let (c, k, e) = frame-cell F n in
+        on-y k y (⊎-elim (λ i. inl (i ∙ sym (ap (λ (z : Rect). z .top) e))) (λ i. inr (i ∙ sym (ap (λ (z : Rect). z .bottom) e))) d))
+        (λ j u. let (c, k, d) = y-edge j (omega (arith, heights-length t)) in rowLines-edges frames-cover (yAt t j) .1 (cellBox t c .frame, frame-in k, d))
 
     -- the number of a line
     x-index : (j : ℕ) → j ≤ C → indexOf (columnLines g fs) (xAt t j) ≡ j
-    unfolding indexOf
-    x-index j u = ap (λ (l : List ℕ). indexOf l (xAt t j)) columnLines-back ∙ position-at xs (offsets-rise 0 (widths t)) j (omega (arith, xs-length))
+    x-index j u = offsets-index (columnLines g fs) (widths t) columnLines-back j (omega (arith, widths-length t))
 
     y-index : (j : ℕ) → j ≤ R → indexOf (rowLines g fs) (yAt t j) ≡ j
-    unfolding indexOf
-    y-index j u = ap (λ (l : List ℕ). indexOf l (yAt t j)) rowLines-back ∙ position-at ys (offsets-rise 0 (heights t)) j (omega (arith, ys-length))
+    y-index j u = offsets-index (rowLines g fs) (heights t) rowLines-back j (omega (arith, heights-length t))
 
     -- ---- cells
     lines-back : {c : TableCell} → List·Memᴰ c (t .cells) → tableCell lines (layoutOf lines g fs) (cellRead g fs (cellBox t c .frame)) .lines ≡ drawnLines (c .lines)

@@ -1,5 +1,5 @@
--- Cutting a drawing at a box gives the box's lines back (`cut-is`). Cut at a column inside at which the box could split, a line comes
--- out shorter than it is (`cut-shorter`).
+-- Cutting a drawing at a box gives the box's lines back (`cutAt-box`). Cut at a column inside that shows a border, a line comes out
+-- shorter than it is (`cutAt-shorter`).
 use Prim.Native.Nat.{ℕ, zero, suc, _+_, _-_, _≤_, _<_}
 use mathlib.Core.Path.{_≡_, refl, sym, ap, _∙_}
 use mathlib.Core.Bool.{Bool, true, false}

@@ -1,4 +1,5 @@
--- The first bordered rectangle at a drawn cell's corner: the cell, or its part up to the first column at which it splits.
+-- The first bordered rectangle at a box's corner: the box where it does not split (`unsplit-first`), else its part up to the first
+-- column at which it does (`split-first`).
 use Prim.Native.Nat.{ℕ, _+_, _-_, _≤_, _<_}
 use mathlib.Core.Path.{_≡_, sym, ap, _∙_}
 use mathlib.Core.Bool.{true, false, _&&_}

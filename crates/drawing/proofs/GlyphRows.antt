@@ -1,4 +1,5 @@
--- The grid that reading makes of a drawing shows each box bordered, and no border beside a left border on an inner line.
+-- The grid that reading makes of a drawing: its size (`grid-width`, `grid-height`), the slots of each line (`rows-flat`), what a border
+-- shows (`slotAt-border`), no border beside a left one inside a box (`glyphAt-gap`). Each box is bordered (`box-bordered`).
 use Prim.Native.Nat.{ℕ, zero, suc, _+_, _-_, _≤_, _<_}
 use mathlib.Core.Path.{_≡_, refl, ap, _∙_}
 use mathlib.Core.Bool.{Bool, true, false, _&&_, _||_, cond}

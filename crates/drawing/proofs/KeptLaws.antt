@@ -1,4 +1,4 @@
--- What the grid rules say of a table, as facts: `kept` gives a `Kept` of a table that keeps them.
+-- What the grid rules say of a table, as facts: `keepsRules-kept` gives a `Kept` of a table that keeps them.
 use Prim.Native.Nat.{ℕ, _+_, _≤_, _<_}
 use mathlib.Core.Path.{_≡_}
 use mathlib.Core.Bool.{true, _&&_}

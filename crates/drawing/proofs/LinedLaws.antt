@@ -1,4 +1,5 @@
--- The `=` rules and the colons of a table's canvas: no cell runs through a rule, and a colon stands at an end of its segment.
+-- The `=` rules and the colons of a table's canvas (`canvas-lined`): rules stand at row lines (`rules-where`), no cell runs through one,
+-- and a colon stands at an end of its segment (`colon-from` and `from-colon`, up to the next corner, `cornerAfter`).
 use Prim.Native.Nat.{ℕ, zero, suc, _+_, _-_, _≤_, _<_}
 use mathlib.Core.Path.{_≡_, refl, sym, ap, _∙_}
 use mathlib.Core.Bool.{Bool, true, false, _&&_, _||_, cond}
@@ -105,15 +106,10 @@ module _ {t : Table} (F : Fine t) where
   unfolding boxOf
   cell-crosses {c} m i h u w = let s = U .lies c m in (yAt-lt F (c .row) i (omega (arith, s .low)) u, yAt-lt F i (c .row + c .rowspan) h w)
 
-  at-head : {c : TableCell} → List·Memᴰ c (t .cells) → cellBox t c .frame .top < yAt t (heads ss) → yAt t (heads ss) < cellBox t c .frame .bottom → ⊥
-  at-head {c} m u w =
-      let k = cell-crosses m (heads ss) (HE .within) u w in
-      omega (arith, crossed m (heads ss) (k .0) (k .1), HE .above (heads ss - 1) (omega arith), HE .under (heads ss) (le-refl _) (omega (arith, U .lies c m .low)))
-
-  at-foot : {c : TableCell} → List·Memᴰ c (t .cells) → cellBox t c .frame .top < yAt t (footAt ss) → yAt t (footAt ss) < cellBox t c .frame .bottom → ⊥
-  at-foot {c} m u w =
-      let k = cell-crosses m (footAt ss) (FS .within) u w in
-      omega (arith, crossed m (footAt ss) (k .0) (k .1), FS .above (footAt ss - 1) (omega arith), FS .under (footAt ss) (le-refl _) (omega (arith, U .lies c m .low)))
+  at-part : {k n : ℕ} → Parted k ss n → {c : TableCell} → List·Memᴰ c (t .cells) → cellBox t c .frame .top < yAt t n → yAt t n < cellBox t c .frame .bottom → ⊥
+  at-part {k} {n} p {c} m u w =
+      let z = cell-crosses m n (p .within) u w in
+      omega (arith, crossed m n (z .0) (z .1), p .above (n - 1) (omega arith), p .under n (le-refl _) (omega (arith, U .lies c m .low)))
 
   at-end : {c : TableCell} → List·Memᴰ c (t .cells) → cellBox t c .frame .top < yAt t R → yAt t R < cellBox t c .frame .bottom → ⊥
   at-end {c} m u w = let k = cell-crosses m R (le-refl _) u w in omega (arith, U .lies c m .low)
@@ -123,8 +119,8 @@ module _ {t : Table} (F : Fine t) where
       let (c, n, made) = box-cell F m in
       let e = ap (λ (z : Box). z .frame .top) made in
       let d = ap (λ (z : Box). z .frame .bottom) made in
-      ⊎-elim (λ p. at-head n (omega (arith, p .1)) (omega (arith, p .1)))
-      (λ p. ⊎-elim (λ q. at-foot n (omega arith) (omega arith)) (λ q. at-end n (omega arith) (omega arith)) (p .1)) (rules-where t y h)
+      ⊎-elim (λ p. at-part HE n (omega (arith, p .1)) (omega (arith, p .1)))
+      (λ p. ⊎-elim (λ q. at-part FS n (omega arith) (omega arith)) (λ q. at-end n (omega arith) (omega arith)) (p .1)) (rules-where t y h)
 
   -- ---- the alignment line
   abbrev al : ℕ

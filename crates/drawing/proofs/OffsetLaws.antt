@@ -1,18 +1,22 @@
 -- The offsets of sizes: one more than there are sizes, rising (`offsets-rise`, `offsets-step`), what lies between two of them
--- (`offsets-have`); of sizes that are at least 1, in which order places stand (`offset-up` to `offset-ltb`).
+-- (`offsets-have`), a list that can only be they (`offsets-only`); of sizes that are at least 1, in which order places stand
+-- (`offset-up` to `offset-ltb`).
 use Prim.Native.Nat.{ℕ, zero, suc, _+_, _-_, _≤_, _<_}
-use mathlib.Core.Path.{_≡_, refl, ap}
+use mathlib.Core.Path.{_≡_, refl, ap, subst, _∙_}
 use mathlib.Core.Bool.{true}
 use mathlib.Core.Logic.{⊎-elim}
-use mathlib.Core.List.{List, [], _∷_}
+use mathlib.Core.List.{List, [], _∷_, List·Memᴰ}
 use native.Mathlib.Omega.{arith}
 use native.Mathlib.Nat.{le-refl, le-of-suc-le-suc, eq-or-lt-of-le}
 use lib.Dec.{leb, ltb}
 use borrow.Author.Tests.{lt-ltb, le-leb, leb-true, ltb-true}
 use lib.ListN.{length, getD, take, drop}
 use lib.Seq.{drop-cons}
-use Rattle.seq.specs.Lists.{sum, lastD, neighbours}
+use Rattle.seq.specs.Lists.{sum, count, lastD, neighbours}
 use Rattle.seq.proofs.Tests.{bool-same, le-or-lt, and-intro}
+use Rattle.seq.proofs.Sorted.{sorted-same}
+use Rattle.seq.proofs.Rising.{rising-strict, position, position-at}
+use Rattle.grid.specs.Layout.{indexOf}
 use Rattle.drawing.specs.Sizes.{Need, have, offsetsFrom, offsets}
 
 pub offsets-length : (a : ℕ) (ws : List ℕ) → length (offsetsFrom a ws) ≡ suc (length ws)
@@ -98,3 +102,19 @@ module _ (ws : List ℕ) (wide : (j : ℕ) → j < length ws → 1 ≤ getD ws j
     offset-ltb i u =
         bool-same (ltb y (offset i)) (ltb r i) (λ e. lt-ltb r i (offset-lt r i (omega arith) (omega (arith, ltb-true y (offset i) e))))
         (λ e. lt-ltb y (offset i) (omega (arith, offset-le (suc r) i (ltb-true r i e) u)))
+
+-- ---- lists that are the offsets
+
+-- a rising list whose numbers are offsets, and that has them all
+pub offsets-only : (ls ws : List ℕ) → neighbours ltb ls ≡ true → ((x : ℕ) → List·Memᴰ x ls → List·Memᴰ x (offsets ws))
+    → ((j : ℕ) → j ≤ length ws → List·Memᴰ (getD (offsets ws) j 0) ls) → ls ≡ offsets ws
+offsets-only ls ws rise there all = sorted-same ltb rising-strict ls (offsets ws) rise (offsets-rise 0 ws) there back where
+  back : (x : ℕ) → List·Memᴰ x (offsets ws) → List·Memᴰ x ls
+  back x m =
+      let p = position (offsets ws) (offsets-rise 0 ws) m in
+      subst (λ (z : ℕ). List·Memᴰ z ls) (p .here) (all (count (λ n. ltb n x) (offsets ws)) (omega (arith, p .inside, offsets-length 0 ws)))
+
+-- the number of an offset
+pub offsets-index : (ls ws : List ℕ) → ls ≡ offsets ws → (j : ℕ) → j ≤ length ws → indexOf ls (getD (offsets ws) j 0) ≡ j
+unfolding indexOf
+offsets-index ls ws e j u = ap (λ (l : List ℕ). indexOf l (getD (offsets ws) j 0)) e ∙ position-at (offsets ws) (offsets-rise 0 ws) j (omega (arith, offsets-length 0 ws))

@@ -1,5 +1,6 @@
--- What reading gives of a drawing. Where no cell splits and line 0 bears no `=` it is read (`reads`), and the table read is the same
--- where the Foot has a Head and each alignment its corner (`back-same`). `passes-back`: so it is for a table that passes redraw's checks.
+-- What reading gives of a drawing. Where no cell splits and line 0 bears no `=` it is read (`drawing-reads`), and the table read is the
+-- same where a Foot has a Head and each alignment its corner (`readBack-same`). So it is for a table that passes redraw's checks
+-- (`passes-readBack`).
 use Prim.Native.Nat.{ℕ, _<_}
 use mathlib.Core.Path.{_≡_, refl, sym, ap, _∙_}
 use mathlib.Core.Bool.{Bool, true, false, not, _&&_, _||_, cond}

@@ -1,4 +1,6 @@
--- A drawn line, from border to border: its bytes are well formed, and take exactly the columns that they are drawn over.
+-- A drawn line, from border to border. `flat o v y a n` is what n columns from a on put down: well formed, of as many columns
+-- (`flat-spans`, `flat-left`), trimmed as it stands (`flat-trimmed`), with its slot at each border (`flat-border-slot`), and around a box
+-- the box's inner line (`flat-around`).
 use Prim.Native.Nat.{ℕ, zero, suc, _+_, _-_, _≤_, _<_}
 use mathlib.Core.Path.{_≡_, refl, sym, ap, _∙_}
 use mathlib.Core.Bool.{Bool, true, false, _&&_, _||_, cond}

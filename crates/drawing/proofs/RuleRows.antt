@@ -1,4 +1,5 @@
--- Which drawn lines are rules: a line that bears `=`, and line 0, and no other.
+-- Which drawn lines are rules, on a canvas that is `Lined`: a line that bears `=` (`flat-rule`), line 0 (`flat-first-rule`), and no other
+-- (`flat-no-rule`). `edgeByte-plus`, `edgeByte-other` and `edgeByte-corner` give the bytes of a line that no box runs through.
 use Prim.Native.Nat.{ℕ, zero, suc, _+_, _-_, _≤_, _<_}
 use mathlib.Core.Path.{_≡_, refl, sym, ap, subst, _∙_}
 use mathlib.Core.Bool.{Bool, true, false, _&&_, _||_, cond}

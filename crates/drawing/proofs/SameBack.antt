@@ -1,6 +1,6 @@
--- Where reading a drawing gives the same table again: no cell splits (`none-splits`), each aligned column has its corner (`aligned`),
--- and the drawing keeps the limits (`small`). A cell that splits would be traced as its part up to the first column at which it does,
--- and its first line would be cut shorter.
+-- Where reading a drawing gives the same table again: no cell splits (`same-unsplit`), each aligned column has its corner
+-- (`same-aligned`), the drawing keeps the limits (`same-small`). A cell that splits would be traced as its part up to the first column at
+-- which it does, and its first line would be cut shorter.
 use Prim.Native.Nat.{ℕ, _+_, _-_, _<_}
 use mathlib.Core.Path.{_≡_, refl, sym, ap, subst, _∙_}
 use mathlib.Core.Bool.{Bool, true, false, not, _&&_, _||_, cond}

@@ -1,5 +1,5 @@
--- `bare-drawn`: the drawing looks at a canvas's columns for their number and their alignments alone. `same-drawn`: tables that are the same,
--- and whose drawn widths are, have the same drawing.
+-- What a drawing looks at: of declared widths nothing (`bare-drawn`). So tables that are the same ask the same widths (`same-needs`), and
+-- with the same drawn widths they have the same drawing (`same-drawn`).
 use Prim.Native.Nat.{ℕ, zero, suc, _+_}
 use mathlib.Core.Path.{_≡_, refl, sym, ap, _∙_}
 use mathlib.Core.Bool.{Bool, _&&_, _||_, cond}

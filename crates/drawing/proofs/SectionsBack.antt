@@ -1,4 +1,5 @@
--- Separators and sections, read back.
+-- Sections, read back: the separators that reading finds are the drawn rules, once each (`separators-back`), the alignment line is the
+-- drawn one (`alignmentLine-back`), and where a Foot has a Head (`headed`) the sections are the table's (`sections-back`).
 use Prim.Native.Nat.{ℕ, zero, suc, _-_, _≤_, _<_}
 use mathlib.Core.Path.{_≡_, refl, sym, ap, _∙_}
 use mathlib.Core.Bool.{Bool, true, false, not, _&&_, _||_, cond}

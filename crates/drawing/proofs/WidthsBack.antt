@@ -1,5 +1,5 @@
--- Drawn widths, read back: a column is read with the width that it was drawn with (`width-back`), drawn widths, declared, are drawn as
--- they are (`widths-again`), so a table that reads back as the same one has the same drawing (`back-widths`, `back-drawn`).
+-- Drawn widths, read back: a column is read with the width that it was drawn with (`width-back`), and drawn widths, declared, are drawn
+-- as they are (`widths-again`). So a table that reads back as the same one has the same drawing (`readBack-widths`, `readBack-drawn`).
 use Prim.Native.Nat.{ℕ, suc, _+_, _<_, max}
 use mathlib.Core.Path.{_≡_, sym, ap, ap₂, _∙_}
 use mathlib.Core.Bool.{false}

@@ -5,6 +5,8 @@ pub mod TraceLaws
 pub mod CoverLaws
 pub mod CoverTheorems
 pub mod LayoutLaws
+pub mod TileLaws
+pub mod AnswerLaws
 pub mod ReadLaws
 pub mod SeparatorLaws
 pub mod SectionLaws
@@ -12,15 +14,13 @@ pub mod GlyphLaws
 pub mod SlotLaws
 pub mod FlatLaws
 pub mod FlatTableLaws
+pub mod FlatDrawingLaws
 pub mod ByteLaws
+pub mod SpanSlotLaws
 pub mod SizeLaws
 pub mod RebuiltLaws
 pub mod SquareSums
 pub mod CutLaws
+pub mod DrawnLineLaws
 pub mod CellLaws
 pub mod CellTexts
-pub mod AnswerLaws
-pub mod SpanSlotLaws
-pub mod TileLaws
-pub mod DrawnLineLaws
-pub mod FlatDrawingLaws

@@ -8,7 +8,7 @@ use mathlib.Core.List.{List, [], _∷_, map, map-map, List·Memᴰ, List·Memᴰ
 use native.Mathlib.Omega.{arith}
 use native.Mathlib.Nat.{le-refl, le-trans}
 use lib.ListN.{length, getD, length-map}
-use Rattle.seq.specs.Lists.{count, neighbours}
+use Rattle.seq.specs.Lists.{count, neighbours, lastD}
 use Rattle.seq.proofs.Tests.{lex-above, lex-beside, lex-cases}
 use Rattle.seq.proofs.Searches.{count-map, count-agree, neighbours-map, neighbours-imply}
 use Rattle.seq.proofs.Positions.{getD-map}
@@ -90,9 +90,12 @@ module _ (t : Table) where
   unfolding canvasOf canvasAt
   canvas-width = omega (arith, offsets-last 0 (widths t) 0 ∙ ap xAt widths-length)
 
+  pub yAt-last : lastD (offsets (heights t)) 0 ≡ yAt (length (t .sections))
+  yAt-last = offsets-last 0 (heights t) 0 ∙ ap yAt heights-length
+
   pub canvas-height : canvasHeight (canvasOf t) ≡ suc (yAt (length (t .sections)))
   unfolding canvasOf canvasAt
-  canvas-height = omega (arith, offsets-last 0 (heights t) 0 ∙ ap yAt heights-length)
+  canvas-height = omega (arith, yAt-last)
 
   canvas-boxes : canvasOf t .boxes ≡ map cellBox (t .cells)
   unfolding canvasOf canvasAt

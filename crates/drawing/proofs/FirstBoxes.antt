@@ -20,6 +20,35 @@ use Rattle.drawing.specs.Redraw.{splitsAt, splits}
 use Rattle.seq.proofs.Finds.{first-in}
 
 module _ {g : Grid} {q : Rect} (h : Bordered g q) (gap : (y : ℕ) → q .top < y → y < q .bottom → glyphAt g y (q .left + 1) ≡ Other) where
+  -- up to a column at which it splits, a bordered rectangle is bordered
+  part-bordered : (c : ℕ) → q .left < c → c < q .right → splitsAt g q c ≡ true → Bordered g (rect (q .top) (q .left) (q .bottom) c)
+  unfolding splitsAt
+  part-bordered c u w e =
+      let p = plusAt g (q .top) c in
+      let r = plusAt g (q .bottom) c in
+      let inner = all (λ y. vertical (glyphAt g y c)) (innerLines q) in
+      let top : glyphAt g (q .top) c ≡ Plus = plus-is (glyphAt g (q .top) c) (and-left p r (and-left (p && r) inner e)) in
+      let bottom : glyphAt g (q .bottom) c ≡ Plus = plus-is (glyphAt g (q .bottom) c) (and-right p r (and-left (p && r) inner e)) in
+      let between = all-range (λ y. vertical (glyphAt g y c)) (q .top + 1) (q .bottom - q .top - 1) (and-right (p && r) inner e) in
+      record {
+        topAboveBottom = h .topAboveBottom;
+        bottomInside = h .bottomInside;
+        leftBeforeRight = u;
+        rightInside = omega (arith, h .rightInside);
+        topLeft = h .topLeft;
+        topRight = top;
+        bottomLeft = h .bottomLeft;
+        bottomRight = bottom;
+        topSide = λ x i j. h .topSide x i (omega arith);
+        bottomSide = λ x i j. h .bottomSide x i (omega arith);
+        leftSide = h .leftSide;
+        rightSide = λ y i j.
+            ⊎-elim (λ (d : q .top ≡ y). ap vertical (ap (λ (z : ℕ). glyphAt g z c) (sym d) ∙ top))
+            (λ (d : q .top < y).
+            ⊎-elim (λ (f : y ≡ q .bottom). ap vertical (ap (λ (z : ℕ). glyphAt g z c) f ∙ bottom)) (λ (f : y < q .bottom). between y (omega arith) (omega arith)) (eq-or-lt-of-le j))
+            (eq-or-lt-of-le i);
+      }
+
   -- a bordered rectangle at the corner reaches at least as far down
   as-deep : (r : Rect) → Bordered g r → r .top ≡ q .top → r .left ≡ q .left → q .bottom ≤ r .bottom
   as-deep r k t l =
@@ -60,34 +89,6 @@ module _ {g : Grid} {q : Rect} (h : Bordered g q) (gap : (y : ℕ) → q .top < 
   unsplit-first s =
       first-at (q .right) h
       (λ x u w. any-none (splitsAt g q) s (mem-range (q .left + 1) (q .right - q .left - 1) x (omega arith) (omega arith)))
-
-  part-bordered : (c : ℕ) → q .left < c → c < q .right → splitsAt g q c ≡ true → Bordered g (rect (q .top) (q .left) (q .bottom) c)
-  unfolding splitsAt
-  part-bordered c u w e =
-      let p = plusAt g (q .top) c in
-      let r = plusAt g (q .bottom) c in
-      let inner = all (λ y. vertical (glyphAt g y c)) (innerLines q) in
-      let top : glyphAt g (q .top) c ≡ Plus = plus-is (glyphAt g (q .top) c) (and-left p r (and-left (p && r) inner e)) in
-      let bottom : glyphAt g (q .bottom) c ≡ Plus = plus-is (glyphAt g (q .bottom) c) (and-right p r (and-left (p && r) inner e)) in
-      let between = all-range (λ y. vertical (glyphAt g y c)) (q .top + 1) (q .bottom - q .top - 1) (and-right (p && r) inner e) in
-      record {
-        topAboveBottom = h .topAboveBottom;
-        bottomInside = h .bottomInside;
-        leftBeforeRight = u;
-        rightInside = omega (arith, h .rightInside);
-        topLeft = h .topLeft;
-        topRight = top;
-        bottomLeft = h .bottomLeft;
-        bottomRight = bottom;
-        topSide = λ x i j. h .topSide x i (omega arith);
-        bottomSide = λ x i j. h .bottomSide x i (omega arith);
-        leftSide = h .leftSide;
-        rightSide = λ y i j.
-            ⊎-elim (λ (d : q .top ≡ y). ap vertical (ap (λ (z : ℕ). glyphAt g z c) (sym d) ∙ top))
-            (λ (d : q .top < y).
-            ⊎-elim (λ (f : y ≡ q .bottom). ap vertical (ap (λ (z : ℕ). glyphAt g z c) f ∙ bottom)) (λ (f : y < q .bottom). between y (omega arith) (omega arith)) (eq-or-lt-of-le j))
-            (eq-or-lt-of-le i);
-      }
 
   pub record Part : Type 0 where
     pub column : ℕ

@@ -5,10 +5,10 @@ use mathlib.Core.Bool.{true, _&&_}
 use mathlib.Core.List.{List, List·Memᴰ}
 use native.Mathlib.Omega.{arith}
 use lib.Dec.{eqb, leb, ltb}
-use borrow.Author.Tests.{leb-true, ltb-true, eqb-true}
+use borrow.Author.Tests.{leb-true, ltb-true, eqb-true, lt-ltb, le-leb}
 use lib.ListN.{length, getD}
 use Rattle.seq.specs.Lists.{range, upTo, all, any, count, neighbours}
-use Rattle.seq.proofs.Tests.{and-left, and-right}
+use Rattle.seq.proofs.Tests.{and-left, and-right, and-intro}
 use Rattle.seq.proofs.Searches.{all-mem, any-mem, all-range}
 use Rattle.grid.specs.Values.{TableCell, Table}
 use Rattle.grid.specs.declared.GridTableSection.the-variants.{Body}
@@ -21,15 +21,11 @@ pub record Lies (t : Table) (c : TableCell) : Type 0 where
   pub near : c .column + c .colspan ≤ length (t .columns)
   pub low : c .row + c .rowspan ≤ length (t .sections)
 
-pub record Kept (t : Table) : Type 0 where
-  pub lies : (c : TableCell) → List·Memᴰ c (t .cells) → Lies t c
-  pub ordered : neighbours comesBefore (t .cells) ≡ true
-  pub square : (r k : ℕ) → r < length (t .sections) → k < length (t .columns) → count (holdsSquare r k) (t .cells) ≡ 1
-  pub rowStart : (r : ℕ) → r < length (t .sections) → (c : TableCell) × List·Memᴰ c (t .cells) × (c .row ≡ r)
-  pub columnStart : (k : ℕ) → k < length (t .columns) → (c : TableCell) × List·Memᴰ c (t .cells) × (c .column ≡ k)
-  pub run : neighbours mayFollow (t .sections) ≡ true
-  pub whole : (c : TableCell) → List·Memᴰ c (t .cells) → (i : ℕ) → c .row ≤ i → i < c .row + c .rowspan
-      → sameSection (getD (t .sections) (c .row) Body) (getD (t .sections) i Body) ≡ true
+-- the test of it, both ways
+pub lies-stays : (t : Table) (c : TableCell) → Lies t c → staysInside t c ≡ true
+lies-stays t c s =
+    and-intro (and-intro (and-intro (lt-ltb 0 (c .colspan) (s .broad)) (lt-ltb 0 (c .rowspan) (s .tall))) (le-leb (c .column + c .colspan) (length (t .columns)) (s .near)))
+    (le-leb (c .row + c .rowspan) (length (t .sections)) (s .low))
 
 stays-lies : (t : Table) (c : TableCell) → staysInside t c ≡ true → Lies t c
 stays-lies t c h =
@@ -45,6 +41,16 @@ stays-lies t c h =
       near = leb-true _ _ (and-right (p && q) u a);
       low = leb-true _ _ (and-right (p && q && u) v h);
     }
+
+pub record Kept (t : Table) : Type 0 where
+  pub lies : (c : TableCell) → List·Memᴰ c (t .cells) → Lies t c
+  pub ordered : neighbours comesBefore (t .cells) ≡ true
+  pub square : (r k : ℕ) → r < length (t .sections) → k < length (t .columns) → count (holdsSquare r k) (t .cells) ≡ 1
+  pub rowStart : (r : ℕ) → r < length (t .sections) → (c : TableCell) × List·Memᴰ c (t .cells) × (c .row ≡ r)
+  pub columnStart : (k : ℕ) → k < length (t .columns) → (c : TableCell) × List·Memᴰ c (t .cells) × (c .column ≡ k)
+  pub run : neighbours mayFollow (t .sections) ≡ true
+  pub whole : (c : TableCell) → List·Memᴰ c (t .cells) → (i : ℕ) → c .row ≤ i → i < c .row + c .rowspan
+      → sameSection (getD (t .sections) (c .row) Body) (getD (t .sections) i Body) ≡ true
 
 pub keepsRules-kept : (t : Table) → keepsRules t ≡ true → Kept t
 unfolding keepsRules inOrder allInside coverOnce allStart sectionsRun noneCrosses

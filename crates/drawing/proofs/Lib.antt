@@ -7,18 +7,18 @@ pub mod ReadLimits
 pub mod MeasureLaws
 pub mod FitLaws
 pub mod OffsetLaws
--- The grid rules and the other checks, as facts of a table.
+-- The limits and the grid rules, as facts of a table.
+pub mod LimitLaws
 pub mod KeptLaws
 pub mod SectionOrder
 -- A canvas: boxes that hold each square once, a drawn line from border to border, which lines are rules.
 pub mod BoxLaws
 pub mod RowLaws
 pub mod RuleRows
--- The canvas of a table that keeps the rules.
+-- The canvas of a table that keeps the rules, and the checks that come after them.
 pub mod CanvasLaws
 pub mod LinedLaws
 pub mod CheckLaws
-pub mod SearchLaws
 -- The grid that reading makes of a drawing: which rectangles are traced in it, what is cut from it.
 pub mod GlyphRows
 pub mod FirstBoxes

@@ -10,8 +10,9 @@ use native.Mathlib.Nat.{le-refl}
 use lib.Dec.{eqb}
 use borrow.Author.Tests.{eqb-true, eq-eqb}
 use lib.ListN.{length, getD}
-use Rattle.seq.specs.Lists.{upTo, any, count, lastD, orDefault}
+use Rattle.seq.specs.Lists.{upTo, any, count, orDefault}
 use Rattle.seq.proofs.Tests.{true-not-false, and-left, and-right, and-intro, or-cases, or-left, or-right}
+use Rattle.seq.proofs.Walks.{or-false}
 use Rattle.seq.proofs.Ranges.{mem-range, range-mem}
 use Rattle.seq.proofs.Searches.{any-mem, mem-any}
 use Rattle.grid.specs.Values.{TableCell, Table}
@@ -22,15 +23,15 @@ use Rattle.grid.specs.declared.TableAlignment.the-variants.{None, Left, Right, 
 use Rattle.grid.specs.declared.GridTableSection.{GridTableSection}
 use Rattle.grid.specs.declared.GridTableSection.the-variants.{Body}
 use Rattle.drawing.specs.GridRules.{isFoot}
-use Rattle.drawing.specs.Sizes.{leastWidth, heights, widths, offsets}
+use Rattle.drawing.specs.Sizes.{leastWidth, widths, offsets}
 use Rattle.drawing.specs.Plain.{Box, Canvas, boxOf, ruleLines, canvasAt, canvasOf, canvasWidth, canvasHeight, cornerAt, alignmentRow, nextCorner, hasLeftColon, hasRightColon, drawsColon}
 use Rattle.seq.proofs.Finds.{FirstIn, first-in, range-any, find-first}
-use Rattle.drawing.proofs.OffsetLaws.{offsets-step, offsets-last}
+use Rattle.drawing.proofs.OffsetLaws.{offsets-step}
 use Rattle.drawing.proofs.BoxLaws.{Tiled, near-square, end-or-within, box-cornerAt, cornerAt-box, box-at}
 use Rattle.drawing.proofs.RuleRows.{colonIn, Colon, Lined}
 use Rattle.drawing.proofs.KeptLaws.{Kept}
 use Rattle.drawing.proofs.SectionOrder.{rank, same-rank, heads, footAt, Parted, head-ends, foot-starts}
-use Rattle.drawing.proofs.CanvasLaws.{Fine, alignmentIn, xAt, yAt, cellBox, widths-length, heights-length, widths-least, canvas-width, canvas-height, box-cell, xAt-up, xAt-le, yAt-le, xAt-lt, yAt-lt, canvas-tiled, canvas-written, side-xAt, canvas-spaced}
+use Rattle.drawing.proofs.CanvasLaws.{Fine, alignmentIn, xAt, yAt, yAt-last, cellBox, widths-length, widths-least, canvas-width, canvas-height, box-cell, xAt-up, xAt-le, yAt-le, xAt-lt, yAt-lt, canvas-tiled, canvas-written, side-xAt, canvas-spaced}
 
 -- ---- the lines that bear `=`
 abbrev OnRule : Table → ℕ → Type 0
@@ -38,33 +39,37 @@ OnRule t y =
     ((0 < heads (t .sections)) × (y ≡ yAt t (heads (t .sections))))
     ⊎ ((0 < count isFoot (t .sections)) × ((y ≡ yAt t (footAt (t .sections))) ⊎ (y ≡ yAt t (length (t .sections)))))
 
-pub yAt-last : (t : Table) → lastD (offsets (heights t)) 0 ≡ yAt t (length (t .sections))
-yAt-last t = offsets-last 0 (heights t) 0 ∙ ap (yAt t) (heights-length t)
-
 positive : (n : ℕ) → eqb n 0 ≡ false → 0 < n
 positive zero e = absurd (true-not-false e)
 positive (suc n) e = omega arith
 
-pub rules-where : (t : Table) (y : ℕ) → any (eqb y) (canvasOf t .rules) ≡ true → OnRule t y
-unfolding canvasOf canvasAt ruleLines any
-rules-where t y h =
-    go (eqb (heads (t .sections)) 0) (eqb (count isFoot (t .sections)) 0) refl refl h where
-      one : (a : ℕ) → eqb y a || false ≡ true → y ≡ a
-      one a e = eqb-true y a (⊎-elim (λ d. d) (λ d. absurd (true-not-false (sym d))) (or-cases (eqb y a) false e))
+-- under Head; above Foot and on the last line
+pub rules-are : (t : Table) → canvasOf t .rules
+    ≡ cond (eqb (heads (t .sections)) 0) [] (yAt t (heads (t .sections)) ∷ [])
+    ++ cond (eqb (count isFoot (t .sections)) 0) [] (yAt t (footAt (t .sections)) ∷ yAt t (length (t .sections)) ∷ [])
+unfolding canvasOf canvasAt ruleLines
+rules-are t = rw (yAt-last t)
 
-      two : eqb y (yAt t (footAt (t .sections))) || (eqb y (lastD (offsets (heights t)) 0) || false) ≡ true → (y ≡ yAt t (footAt (t .sections))) ⊎ (y ≡ yAt t (length (t .sections)))
+pub rules-where : (t : Table) (y : ℕ) → any (eqb y) (canvasOf t .rules) ≡ true → OnRule t y
+unfolding any
+rules-where t y h =
+    go (eqb (heads (t .sections)) 0) (eqb (count isFoot (t .sections)) 0) refl refl (rw (rules-are t) at h) where
+      one : (a : ℕ) → eqb y a || false ≡ true → y ≡ a
+      one a e = eqb-true y a (sym (or-false (eqb y a)) ∙ e)
+
+      two : eqb y (yAt t (footAt (t .sections))) || (eqb y (yAt t (length (t .sections))) || false) ≡ true → (y ≡ yAt t (footAt (t .sections))) ⊎ (y ≡ yAt t (length (t .sections)))
       two k =
-          ⊎-elim (λ e. inl (eqb-true y _ e)) (λ e. inr (one (lastD (offsets (heights t)) 0) e ∙ yAt-last t))
-          (or-cases (eqb y (yAt t (footAt (t .sections)))) (eqb y (lastD (offsets (heights t)) 0) || false) k)
+          ⊎-elim (λ e. inl (eqb-true y _ e)) (λ e. inr (one _ e))
+          (or-cases (eqb y (yAt t (footAt (t .sections)))) (eqb y (yAt t (length (t .sections))) || false) k)
 
       go : (a b : Bool) → eqb (heads (t .sections)) 0 ≡ a → eqb (count isFoot (t .sections)) 0 ≡ b
-          → any (eqb y) (cond a [] (yAt t (heads (t .sections)) ∷ []) ++ cond b [] (yAt t (footAt (t .sections)) ∷ lastD (offsets (heights t)) 0 ∷ [])) ≡ true → OnRule t y
+          → any (eqb y) (cond a [] (yAt t (heads (t .sections)) ∷ []) ++ cond b [] (yAt t (footAt (t .sections)) ∷ yAt t (length (t .sections)) ∷ [])) ≡ true → OnRule t y
       go true true p q k = absurd (true-not-false (sym k))
       go true false p q k = inr (positive _ q, two k)
       go false true p q k = inl (positive _ p, one _ k)
       go false false p q k =
           ⊎-elim (λ e. inl (positive _ p, eqb-true y _ e)) (λ e. inr (positive _ q, two e))
-          (or-cases (eqb y (yAt t (heads (t .sections)))) (eqb y (yAt t (footAt (t .sections))) || (eqb y (lastD (offsets (heights t)) 0) || false)) k)
+          (or-cases (eqb y (yAt t (heads (t .sections)))) (eqb y (yAt t (footAt (t .sections))) || (eqb y (yAt t (length (t .sections))) || false)) k)
 
 first-in-rules : (l : List ℕ) → (orDefault 0 (firstOf l) ≡ 0) ⊎ (any (eqb (orDefault 0 (firstOf l))) l ≡ true)
 unfolding any

@@ -33,12 +33,12 @@ use Rattle.drawing.specs.Redraw.{footWithoutHead, insideSegment, colonsM
 use Rattle.drawing.proofs.RowLaws.{drawnLine-text, flat-slots, flat-spans}
 use Rattle.drawing.proofs.RuleRows.{flat-first-rule}
 use Rattle.drawing.proofs.CanvasLaws.{Fine, alignmentIn, xAt, cellBox, canvas-columns, cell-box, frames}
-use Rattle.drawing.proofs.CheckLaws.{drawnTooLarge-parts}
+use Rattle.drawing.proofs.LimitLaws.{drawnTooLarge-parts}
 use Rattle.drawing.proofs.GlyphRows.{canvasLines-length, canvasLines-at, trimmedAt-flat, rows-flat, grid-width, zero-low}
 use Rattle.drawing.proofs.CellsBack.{lines, g, L, frames-traced, cells-same}
 use Rattle.drawing.proofs.SectionsBack.{Headed, headed, rules-below, sections-back}
 use Rattle.drawing.proofs.AlignmentsBack.{columns-length, alignment-back}
-use Rattle.drawing.proofs.SearchLaws.{misaligned-none, splitCell-none}
+use Rattle.drawing.proofs.CheckLaws.{misaligned-none, splitCell-none}
 use Rattle.drawing.proofs.SameDrawn.{bareColumn}
 
 -- ---- a drawing passes the checks of reading

@@ -45,7 +45,7 @@ use Rattle.drawing.proofs.CutBoxes.{cutAt-shorter}
 use Rattle.drawing.proofs.CellsBack.{lines, g, L, frames-tiles, cell-bordered, cell-first, cell-part, frames-traced}
 use Rattle.drawing.proofs.SectionsBack.{Headed, rules-below}
 use Rattle.drawing.proofs.AlignmentsBack.{colonsMisplaced-is, columns-length, alignment-back}
-use Rattle.drawing.proofs.SearchLaws.{misaligned-nowhere, splitCell-nowhere}
+use Rattle.drawing.proofs.CheckLaws.{misaligned-nowhere, splitCell-nowhere}
 use Rattle.drawing.proofs.SameDrawn.{bareColumn}
 
 module _ {t : Table} (F : Fine t) (o : ℕ) (rs : List Rect) (checks : Passed (lines F o) rs) (same : Same (tableOf (lines F o) (layoutOf (lines F o) (g F o) rs)) t) where

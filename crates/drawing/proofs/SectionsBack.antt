@@ -27,7 +27,7 @@ use Rattle.grid.specs.declared.GridTableSection.{GridTableSection}
 use Rattle.grid.specs.declared.GridTableSection.the-variants.{Head, Body, Foot}
 use Rattle.drawing.specs.GridRules.{isHead, isFoot}
 use Rattle.drawing.specs.Sizes.{heights}
-use Rattle.drawing.specs.Plain.{Canvas, ruleLines, canvasAt, canvasOf, canvasWidth, canvasHeight, alignmentRow}
+use Rattle.drawing.specs.Plain.{Canvas, canvasOf, canvasWidth, canvasHeight, alignmentRow}
 use Rattle.drawing.specs.Redraw.{footWithoutHead, splits}
 use Rattle.seq.proofs.Tests.{bool-cases}
 use Rattle.drawing.proofs.OffsetLaws.{offsets-zero}
@@ -36,7 +36,7 @@ use Rattle.drawing.proofs.RuleRows.{Lined, flat-rule, flat-no-rule}
 use Rattle.drawing.proofs.KeptLaws.{Kept}
 use Rattle.drawing.proofs.SectionOrder.{head-is, body-is, foot-is, heads, footAt, Parted, head-ends, foot-starts, head-first}
 use Rattle.drawing.proofs.CanvasLaws.{Fine, yAt, cellBox, canvas-height, yAt-up, yAt-le, frames}
-use Rattle.drawing.proofs.LinedLaws.{yAt-last, rules-where, rules-low, canvas-lined}
+use Rattle.drawing.proofs.LinedLaws.{rules-are, rules-where, rules-low, canvas-lined}
 use Rattle.drawing.proofs.GlyphRows.{canvasLines-length, isSeparator-flat, grid-height}
 use Rattle.drawing.proofs.CellsBack.{lines, g, frames-cover, rowLines-back, ys-length}
 use Rattle.drawing.proofs.ReadRules.{table-rows, section-of}
@@ -86,8 +86,8 @@ module _ {t : Table} (F : Fine t) (o : ℕ) where
   foot-some q = omega (arith, count-few isFoot ss)
 
   seps-same : (y : ℕ) → any (eqb y) sepsT ≡ any (eqb y) (v .rules)
-  unfolding canvasOf canvasAt ruleLines seps any
-  seps-same y = rw (yAt-last t) (go (eqb h 0) (eqb n 0) (eqb (yAt t h) (yAt t e)) refl) where
+  unfolding seps any
+  seps-same y = rw (rules-are t) (go (eqb h 0) (eqb n 0) (eqb (yAt t h) (yAt t e)) refl) where
     twice : (p q : Bool) → p || (q || false) ≡ p || (p || (q || false))
     twice true q = refl
     twice false q = refl
@@ -150,8 +150,8 @@ module _ {t : Table} (F : Fine t) (o : ℕ) where
             mem-select (isSeparator (lines F o)) (mem-range 0 (length (lines F o)) y (omega arith) (omega (arith, canvasLines-length o v))) (is-separator z y low ∙ q)
 
   first-same : firstOf sepsT ≡ firstOf (v .rules)
-  unfolding canvasOf canvasAt ruleLines seps
-  first-same = rw (yAt-last t) (go (eqb h 0) (eqb n 0) (eqb (yAt t h) (yAt t e))) where
+  unfolding seps
+  first-same = rw (rules-are t) (go (eqb h 0) (eqb n 0) (eqb (yAt t h) (yAt t e))) where
     go : (a b c : Bool) → firstOf (seps a b (yAt t h) (yAt t e) (yAt t R)) ≡ firstOf (cond a [] (yAt t h ∷ []) ++ cond b [] (yAt t e ∷ yAt t R ∷ []))
     go true true c = refl
     go false true c = refl

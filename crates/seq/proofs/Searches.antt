@@ -244,3 +244,8 @@ module _ {A : Type 0} (test : A → Bool) where
     go true q e m later = absurd (let z : _≡_ {A = ℕ} 0 1 = cc in omega arith)
     go false q e (List·Memᴰ·head r) later = rw r q
     go false q e (List·Memᴰ·tail n) later = later e n
+
+  pub firstAt-nothing : (at : ℕ) (l : List A) → ((a : A) → List·Memᴰ a l → test a ≡ false) → firstAt test at l ≡ none
+  unfolding firstAt
+  firstAt-nothing at [] h = refl
+  firstAt-nothing at (a ∷ l) h = rw (h a (List·Memᴰ·head refl)) (firstAt-nothing (at + 1) l (λ b m. h b (List·Memᴰ·tail m)))

@@ -3,7 +3,6 @@ use Prim.Native.Nat.{ℕ, _≤_, _<_}
 use mathlib.Core.Path.{_≡_, refl, sym, _∙_}
 use mathlib.Core.Bool.{Bool, true, false, _&&_, _||_, cond}
 use native.Mathlib.Omega.{arith}
-use native.Mathlib.Nat.{le-refl}
 use lib.Dec.{eqb, leb, ltb}
 use borrow.Author.Tests.{ltb-true, ltb-false, ne-eqb, le-leb, lt-leb}
 use Rattle.seq.proofs.Tests.{true-not-false}
@@ -74,14 +73,6 @@ span-four-columns-at-most column c = go (eqb c tab) where
   go : (t : Bool) → cond t (tabColumns column) (columnsOf (widthOf c)) ≤ 4
   go true = tab-four-columns-at-most column
   go false = omega (arith, one-or-two-columns-at-most c)
-
--- no more than with a tab counted as 4
-pub span-tab-as-four : (column c : ℕ) → span column c ≤ cond (eqb c tab) 4 (columnsOf (widthOf c))
-unfolding span
-span-tab-as-four column c = go (eqb c tab) where
-  go : (t : Bool) → cond t (tabColumns column) (columnsOf (widthOf c)) ≤ cond t 4 (columnsOf (widthOf c))
-  go true = tab-four-columns-at-most column
-  go false = le-refl _
 
 -- ---- the set
 pub ascii-in-set : (c : ℕ) → 0x20 ≤ c → c ≤ 0x7e → inSet c ≡ true

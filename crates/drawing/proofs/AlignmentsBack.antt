@@ -4,7 +4,7 @@ use Prim.Native.Nat.{ℕ, suc, _+_, _-_, _<_}
 use mathlib.Core.Path.{_≡_, refl, sym, ap, ap₂, subst, _∙_}
 use mathlib.Core.Bool.{Bool, true, false, not, _&&_, _||_, cond}
 use mathlib.Core.Logic.{⊎-elim}
-use mathlib.Core.List.{List, map, List·Memᴰ}
+use mathlib.Core.List.{List, map}
 use native.Mathlib.Omega.{arith}
 use native.Mathlib.Nat.{eq-or-lt-of-le}
 use lib.Dec.{eqb}
@@ -17,7 +17,7 @@ use Rattle.seq.proofs.Positions.{getD-map}
 use Rattle.text.specs.Characters.{plus, colon}
 use Rattle.text.specs.Rule.{toPlus}
 use Rattle.text.proofs.RuleBytes.{toPlus-of-bytes}
-use Rattle.grid.specs.Values.{Rect, GridTableColumn, TableCell, Table}
+use Rattle.grid.specs.Values.{Rect, GridTableColumn, Table}
 use Rattle.grid.specs.Slots.{Slot, isPlus, glyphOf, trimmedAt, byteAt}
 use Rattle.grid.specs.Rectangle.{plusAt}
 use Rattle.grid.specs.Layout.{Between, between, columnLines, alignmentOf, segmentAlignment, alignmentAt, columnsRead}
@@ -26,15 +26,15 @@ use Rattle.grid.specs.declared.TableAlignment.the-variants.{None, Left, Right, 
 use Rattle.grid.proofs.LayoutLaws.{length-between, getD-between}
 use Rattle.grid.proofs.SpanSlotLaws.{glyphOf-plus}
 use Rattle.drawing.specs.Plain.{Canvas, canvasAt, canvasOf, canvasWidth, cornerAt, alignmentRow, nextCorner, hasLeftColon, hasRightColon, hasCorner, leftColon, rightColon}
-use Rattle.drawing.specs.Redraw.{insideSegment, colonsMisplaced, splits}
+use Rattle.drawing.specs.Redraw.{insideSegment, colonsMisplaced}
 use Rattle.seq.proofs.Finds.{FirstIn}
 use Rattle.drawing.proofs.BoxLaws.{border, border-or-inside}
 use Rattle.drawing.proofs.RowLaws.{edgeByte}
 use Rattle.drawing.proofs.RuleRows.{colonIn, Lined, flat-clear, edgeByte-plus, edgeByte-other, fillOf, fillOf-other, edgeByte-corner, corners-apart}
-use Rattle.drawing.proofs.CanvasLaws.{Fine, alignmentIn, xAt, cellBox, xAt-same, frames}
+use Rattle.drawing.proofs.CanvasLaws.{Fine, alignmentIn, xAt, xAt-same, frames}
 use Rattle.drawing.proofs.LinedLaws.{alignmentRow-low, alignmentRow-clear, xAt-room, cornerAfter, nextCorner-is, nextCorner-far, ColonOf, atLeft, atRight, colon-wide, colon-from, from-colon, canvas-lined}
 use Rattle.drawing.proofs.GlyphRows.{trimmedAt-flat, slotAt-border}
-use Rattle.drawing.proofs.CellsBack.{lines, g, columnLines-back, xs-length}
+use Rattle.drawing.proofs.CellsBack.{lines, g, Unsplit, columnLines-back, xs-length}
 use Rattle.drawing.proofs.SectionsBack.{alignmentLine-back}
 
 by-colons : (a : TableAlignment) → alignmentOf (hasLeftColon a) (hasRightColon a) ≡ a
@@ -192,7 +192,7 @@ module _ {t : Table} (F : Fine t) (o : ℕ) where
     go true l r fl fr e = rw (fl e, fr e, and-false (hasLeftColon a), and-false (hasRightColon a))
 
   -- ---- the columns read
-  module _ (unsplit : (c : TableCell) → List·Memᴰ c (t .cells) → splits (g F o) (cellBox t c .frame) ≡ false) where
+  module _ (unsplit : Unsplit F o) where
     abbrev fs : List Rect
     fs = frames F
 

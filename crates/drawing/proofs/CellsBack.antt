@@ -78,7 +78,11 @@ module _ {t : Table} (F : Fine t) (o : ℕ) where
   pub cell-part : {c : TableCell} (m : List·Memᴰ c (t .cells)) → splits g (cellBox t c .frame) ≡ true → Part (cell-bordered m) (glyphAt-gap L o (cell-box F m))
   cell-part m s = split-first (cell-bordered m) (glyphAt-gap L o (cell-box F m)) s
 
-  module _ (unsplit : (c : TableCell) → List·Memᴰ c (t .cells) → splits g (cellBox t c .frame) ≡ false) where
+  -- no cell splits
+  abbrev pub Unsplit : Type 0
+  Unsplit = (c : TableCell) → List·Memᴰ c (t .cells) → splits (gridOf (canvasLines o (canvasOf t))) (cellBox t c .frame) ≡ false
+
+  module _ (unsplit : Unsplit) where
     frame-first : (q : Rect) → List·Memᴰ q fs → First g q
     frame-first q m = let (c, n, e) = frame-cell F m in subst (First g) e (cell-first n (unsplit c n))
 

@@ -45,15 +45,15 @@ fine o t notEmpty notTooLarge inSet rules =
 
 -- Refusal 10's search finds nothing exactly where no column is misplaced.
 module _ (v : Canvas) where
-  pub misaligned-none : misaligned v ≡ none → (k : ℕ) → k < length (v .columns) → colonsMisplaced v k (columnAlignment v k) ≡ false
-  unfolding misaligned
-  misaligned-none e k u =
-      find-none (λ k. colonsMisplaced v k (columnAlignment v k)) (upTo (length (v .columns))) e (mem-range 0 (length (v .columns)) k (omega arith) (omega arith))
-
   pub misaligned-nowhere : ((k : ℕ) → k < length (v .columns) → colonsMisplaced v k (columnAlignment v k) ≡ false) → misaligned v ≡ none
   unfolding misaligned
   misaligned-nowhere h =
       find-nothing (λ k. colonsMisplaced v k (columnAlignment v k)) (upTo (length (v .columns))) (λ k m. h k (omega (arith, range-mem 0 (length (v .columns)) k m)))
+
+  pub misaligned-none : misaligned v ≡ none → (k : ℕ) → k < length (v .columns) → colonsMisplaced v k (columnAlignment v k) ≡ false
+  unfolding misaligned
+  misaligned-none e k u =
+      find-none (λ k. colonsMisplaced v k (columnAlignment v k)) (upTo (length (v .columns))) e (mem-range 0 (length (v .columns)) k (omega arith) (omega arith))
 
 -- Refusal 11's search finds nothing exactly where no box splits.
 module _ (v : Canvas) (g : Grid) where

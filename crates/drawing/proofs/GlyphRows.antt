@@ -17,14 +17,19 @@ use Rattle.text.specs.Characters.{space, plus, colon}
 use Rattle.text.specs.Utf8.{charIndices}
 use Rattle.text.specs.Trim.{trimEnd}
 use Rattle.text.specs.Rule.{isRule}
-use Rattle.grid.specs.Values.{Line}
+use Rattle.grid.specs.Values.{Line, Table}
 use Rattle.grid.specs.Slots.{Grid, Slot, Plus, Other, dash, equals, pipe, horizontal, vertical, glyphOf, slotsFrom, lineSlots, trimmedAt, isSeparator, gridOf, slotAt, glyphAt}
 use Rattle.grid.specs.Cover.{Bordered}
 use Rattle.grid.proofs.SlotLaws.{row-at}
-use Rattle.drawing.specs.Plain.{Box, Canvas, canvasWidth, canvasHeight, cornerAt, horizontalAt, alignmentRow, colonAt, borderByte, drawnLine, canvasLines}
+use Rattle.drawing.specs.Plain.{Box, Canvas, canvasOf, canvasWidth, canvasHeight, cornerAt, horizontalAt, alignmentRow, colonAt, borderByte, drawnLine, canvasLines, drawn}
 use Rattle.drawing.proofs.BoxLaws.{Sized, Tiled, border, End, end-or-within, box-cornerAt, box-horizontalAt, box-verticalAt, horizontalAt-box, cornerAt-border, horizontalAt-border, verticalAt-border, same-box}
 use Rattle.drawing.proofs.RowLaws.{edgeByte, flat, drawnLine-text, flat-border-slot, flat-trimmed, flat-gap-slot}
 use Rattle.drawing.proofs.RuleRows.{Side, colonIn, Lined, flat-rule, flat-no-rule, flat-clear}
+
+-- the drawing of a table is that of its canvas
+pub drawn-lines : (o : ℕ) (t : Table) → drawn o t ≡ canvasLines o (canvasOf t)
+unfolding drawn
+drawn-lines o t = refl
 
 -- the drawing of a canvas
 module _ (o : ℕ) (v : Canvas) where

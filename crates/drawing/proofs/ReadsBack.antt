@@ -5,7 +5,7 @@ use Prim.Native.Nat.{ℕ, _<_}
 use mathlib.Core.Path.{_≡_, refl, sym, ap, _∙_}
 use mathlib.Core.Bool.{Bool, true, false, not, _&&_, _||_, cond}
 use mathlib.Core.Option.{none}
-use mathlib.Core.List.{List, [], map, List·Memᴰ}
+use mathlib.Core.List.{List, [], map}
 use native.Mathlib.Omega.{arith}
 use lib.Dec.{eqb, ltb}
 use lib.ListN.{length, getD, length-map}
@@ -19,7 +19,7 @@ use Rattle.text.specs.Utf8.{wellFormed}
 use Rattle.text.specs.Rule.{isRule}
 use Rattle.grid.specs.Limits.{maxWidth}
 use Rattle.grid.specs.Answer.{accept}
-use Rattle.grid.specs.Values.{Line, GridTableColumn, TableCell, Table}
+use Rattle.grid.specs.Values.{Line, GridTableColumn, Table}
 use Rattle.grid.specs.Slots.{dash}
 use Rattle.grid.specs.Layout.{columnsRead, layoutOf}
 use Rattle.grid.specs.Cut.{tableOf}
@@ -28,18 +28,25 @@ use Rattle.grid.specs.Same.{normal, Same}
 use Rattle.grid.specs.declared.TableAlignment.{TableAlignment}
 use Rattle.grid.specs.declared.TableAlignment.the-variants.{None, Left, Right, Center}
 use Rattle.grid.proofs.SlotLaws.{row-at, no-wrong-row}
-use Rattle.drawing.specs.Plain.{Canvas, canvasOf, canvasAt, canvasHeight, cornerAt, alignmentRow, hasLeftColon, hasRightColon, columnAlignment, leftColon, rightColon, canvasLines, drawn}
-use Rattle.drawing.specs.Redraw.{footWithoutHead, insideSegment, colonsMisplaced, misaligned, drawnTooLarge, splits, splitCell}
+use Rattle.drawing.specs.Plain.{Canvas, canvasOf, canvasAt, canvasHeight, cornerAt, alignmentRow, hasLeftColon, hasRightColon, columnAlignment, leftColon, rightColon, canvasLines}
+use Rattle.drawing.specs.Redraw.{footWithoutHead, insideSegment, colonsMisplaced, misaligned, drawnTooLarge, splitCell}
 use Rattle.drawing.proofs.RowLaws.{drawnLine-text, flat-slots, flat-spans}
 use Rattle.drawing.proofs.RuleRows.{flat-first-rule}
-use Rattle.drawing.proofs.CanvasLaws.{Fine, alignmentIn, xAt, cellBox, canvas-columns, cell-box, frames}
+use Rattle.drawing.proofs.CanvasLaws.{Fine, alignmentIn, xAt, canvas-columns, cell-box, frames}
 use Rattle.drawing.proofs.LimitLaws.{drawnTooLarge-parts}
 use Rattle.drawing.proofs.GlyphRows.{canvasLines-length, canvasLines-at, trimmedAt-flat, rows-flat, grid-width, zero-low}
-use Rattle.drawing.proofs.CellsBack.{lines, g, L, frames-traced, cells-same}
+use Rattle.drawing.proofs.CellsBack.{lines, g, L, Unsplit, frames-traced, cells-same}
 use Rattle.drawing.proofs.SectionsBack.{Headed, headed, rules-below, sections-back}
 use Rattle.drawing.proofs.AlignmentsBack.{columns-length, alignment-back}
 use Rattle.drawing.proofs.CheckLaws.{misaligned-none, splitCell-none}
 use Rattle.drawing.proofs.SameDrawn.{bareColumn}
+
+-- column c is read with its alignment: it has none, or a corner at its left on the alignment line
+abbrev pub AlignmentKept : Table → ℕ → Type 0
+AlignmentKept t c = cond (cornerAt (canvasOf t) (alignmentRow (canvasOf t)) (xAt t c)) (alignmentIn t c) None ≡ alignmentIn t c
+
+abbrev pub AlignmentsKept : Table → Type 0
+AlignmentsKept t = (c : ℕ) → c < length (t .columns) → AlignmentKept t c
 
 -- ---- a drawing passes the checks of reading
 module _ {t : Table} (F : Fine t) (o : ℕ) where
@@ -73,7 +80,7 @@ module _ {t : Table} (F : Fine t) (o : ℕ) where
       ap length (sym (row-at (lines F o) y h) ∙ rows-flat (L F o) o y (omega (arith, canvasLines-length o v)))
       ∙ flat-slots (L F o .written) o y (omega (arith, canvasLines-length o v)) _ ∙ sym (grid-width (L F o) o))
 
-  module _ (unsplit : (c : TableCell) → List·Memᴰ c (t .cells) → splits (g F o) (cellBox t c .frame) ≡ false) where
+  module _ (unsplit : Unsplit F o) where
     abbrev pub readBack : Table
     readBack = tableOf (lines F o) (layoutOf (lines F o) (g F o) (frames F))
 
@@ -84,11 +91,7 @@ module _ {t : Table} (F : Fine t) (o : ℕ) where
         let narrow : ltb maxWidth (g F o .width) ≡ false = ap (ltb maxWidth) (grid-width (L F o) o) ∙ parts .0 in
         rw (some-lines, parts .1, all-in-set, is-ruled z, narrow, is-filled, frames-traced F o unsplit)
 
-    -- the alignment that each column keeps
-    abbrev pub AlignmentsKept : Type 0
-    AlignmentsKept = (c : ℕ) → c < length (t .columns) → cond (cornerAt v (alignmentRow v) (xAt t c)) (alignmentIn t c) None ≡ alignmentIn t c
-
-    columns-same : any (eqb 0) (v .rules) ≡ false → AlignmentsKept → map bareColumn (columnsRead (lines F o) (g F o) (frames F)) ≡ map bareColumn (t .columns)
+    columns-same : any (eqb 0) (v .rules) ≡ false → AlignmentsKept t → map bareColumn (columnsRead (lines F o) (g F o) (frames F)) ≡ map bareColumn (t .columns)
     columns-same z keep =
         let e : GridTableColumn = record { alignment = None; width = 0 } in
         let read = columnsRead (lines F o) (g F o) (frames F) in
@@ -100,7 +103,7 @@ module _ {t : Table} (F : Fine t) (o : ℕ) where
         ∙ ap (λ (a : TableAlignment). record { alignment = a; width = 0 }) (alignment-back F o unsplit z c u e ∙ keep c u)
         ∙ sym (getD-map bareColumn (t .columns) c e e u))
 
-    pub readBack-same : Headed F o → AlignmentsKept → Same readBack t
+    pub readBack-same : Headed F o → AlignmentsKept t → Same readBack t
     unfolding normal tableOf layoutOf
     readBack-same k keep =
         let columns = columns-same (rules-below F o k) keep in
@@ -109,8 +112,7 @@ module _ {t : Table} (F : Fine t) (o : ℕ) where
         λ i. record { columns = columns i; sections = sections i; cells = cells i }
 
 -- ---- what the later checks say
-alignment-kept : (t : Table) (c : ℕ) → colonsMisplaced (canvasOf t) c (columnAlignment (canvasOf t) c) ≡ false
-    → cond (cornerAt (canvasOf t) (alignmentRow (canvasOf t)) (xAt t c)) (alignmentIn t c) None ≡ alignmentIn t c
+alignment-kept : (t : Table) (c : ℕ) → colonsMisplaced (canvasOf t) c (columnAlignment (canvasOf t) c) ≡ false → AlignmentKept t c
 unfolding canvasOf canvasAt
 alignment-kept t c h =
     go (cornerAt (canvasOf t) (alignmentRow (canvasOf t)) (xAt t c)) (alignmentIn t c) (insideSegment (canvasOf t) (leftColon (canvasOf t) c)) (insideSegment (canvasOf t) (rightColon (canvasOf t) c)) h where
@@ -121,11 +123,10 @@ alignment-kept t c h =
       go false Right l r e = absurd (true-not-false e)
       go false Center l r e = absurd (true-not-false e)
 
-alignments-kept : (t : Table) → misaligned (canvasOf t) ≡ none → (c : ℕ) → c < length (t .columns)
-    → cond (cornerAt (canvasOf t) (alignmentRow (canvasOf t)) (xAt t c)) (alignmentIn t c) None ≡ alignmentIn t c
+pub alignments-kept : (t : Table) → misaligned (canvasOf t) ≡ none → AlignmentsKept t
 alignments-kept t h c u = alignment-kept t c (misaligned-none (canvasOf t) h c (rw (canvas-columns t) u))
 
-pub splitCell-unsplit : {t : Table} (F : Fine t) (o : ℕ) → splitCell (canvasOf t) (g F o) ≡ none → (c : TableCell) → List·Memᴰ c (t .cells) → splits (g F o) (cellBox t c .frame) ≡ false
+pub splitCell-unsplit : {t : Table} (F : Fine t) (o : ℕ) → splitCell (canvasOf t) (g F o) ≡ none → Unsplit F o
 splitCell-unsplit {t} F o h c m = splitCell-none (canvasOf t) (g F o) h (cell-box F m)
 
 -- a table that passes the later checks too is read back
@@ -135,7 +136,3 @@ passes-readBack {t} F o h₉ h₁₀ h₂ h₁₁ =
     let unsplit = splitCell-unsplit F o h₁₁ in
     let k = headed F o h₉ in
     (readBack F o unsplit, drawing-reads F o unsplit (rules-below F o k) h₂, readBack-same F o unsplit k (alignments-kept t h₁₀))
-
-pub drawn-lines : (o : ℕ) (t : Table) → drawn o t ≡ canvasLines o (canvasOf t)
-unfolding drawn
-drawn-lines o t = refl

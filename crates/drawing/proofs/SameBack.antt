@@ -42,10 +42,11 @@ use Rattle.drawing.proofs.CanvasLaws.{Fine, alignmentIn, xAt, cellBox, 
 use Rattle.drawing.proofs.GlyphRows.{grid-width, glyphAt-gap}
 use Rattle.drawing.proofs.FirstBoxes.{Part}
 use Rattle.drawing.proofs.CutBoxes.{cutAt-shorter}
-use Rattle.drawing.proofs.CellsBack.{lines, g, L, frames-tiles, cell-bordered, cell-first, cell-part, frames-traced}
+use Rattle.drawing.proofs.CellsBack.{lines, g, L, Unsplit, frames-tiles, cell-bordered, cell-first, cell-part, frames-traced}
 use Rattle.drawing.proofs.SectionsBack.{Headed, rules-below}
 use Rattle.drawing.proofs.AlignmentsBack.{colonsMisplaced-is, columns-length, alignment-back}
 use Rattle.drawing.proofs.CheckLaws.{misaligned-nowhere, splitCell-nowhere}
+use Rattle.drawing.proofs.ReadsBack.{AlignmentsKept}
 use Rattle.drawing.proofs.SameDrawn.{bareColumn}
 
 module _ {t : Table} (F : Fine t) (o : ℕ) (rs : List Rect) (checks : Passed (lines F o) rs) (same : Same (tableOf (lines F o) (layoutOf (lines F o) (g F o) rs)) t) where
@@ -156,7 +157,7 @@ module _ {t : Table} (F : Fine t) (o : ℕ) (rs : List Rect) (checks : Passed (l
         ap trimEnd (sym first-line) ∙ sym (drawn-line-at (cell (lines F o) (g F o) rs cover p .lines) 0) ∙ ap (λ (l : List (List ℕ)). getD l 0 []) lines-same in
         omega (arith, ap length d, trim-shorter first-cut, shorter)
 
-  unsplit : (c : TableCell) → List·Memᴰ c (t .cells) → splits (g F o) (cellBox t c .frame) ≡ false
+  unsplit : Unsplit F o
   unsplit = go (first-pass (λ (c : TableCell). splits (g F o) (cellBox t c .frame)) (t .cells)) where
     go : FirstPass (λ (c : TableCell). splits (g F o) (cellBox t c .frame)) (t .cells) → (c : TableCell) → List·Memᴰ c (t .cells) → splits (g F o) (cellBox t c .frame) ≡ false
     go (nowhere h) = h
@@ -172,7 +173,7 @@ module _ {t : Table} (F : Fine t) (o : ℕ) (rs : List Rect) (checks : Passed (l
     unfolding normal tableOf layoutOf
     columns-same = ap (λ (u : Table). u .columns) same
 
-    alignment-same : (c : ℕ) → c < length (t .columns) → cond (cornerAt v (alignmentRow v) (xAt t c)) (alignmentIn t c) None ≡ alignmentIn t c
+    alignment-same : AlignmentsKept t
     alignment-same c u =
         let d : GridTableColumn = record { alignment = None; width = 0 } in
         let read = columnsRead (lines F o) (g F o) (frames F) in

@@ -19,7 +19,7 @@ use Rattle.seq.proofs.Searches.{any-mem, mem-any, any-eqb, eqb-any, select-mem,
 use Rattle.seq.proofs.Sorted.{sorted-same}
 use Rattle.seq.proofs.Rising.{rising-strict, range-rises, select-sorted}
 use Rattle.text.specs.Rule.{isRule}
-use Rattle.grid.specs.Values.{Rect, TableCell, Table}
+use Rattle.grid.specs.Values.{Rect, Table}
 use Rattle.grid.specs.Slots.{equals, isSeparator, gridOf}
 use Rattle.grid.specs.Layout.{firstOf, lastButOne, isAbove, isFrom, sectionAt, alignmentLine, rowLines, layoutOf}
 use Rattle.grid.specs.Cut.{tableOf}
@@ -28,17 +28,17 @@ use Rattle.grid.specs.declared.GridTableSection.the-variants.{Head, Body, Foot}
 use Rattle.drawing.specs.GridRules.{isHead, isFoot}
 use Rattle.drawing.specs.Sizes.{heights}
 use Rattle.drawing.specs.Plain.{Canvas, canvasOf, canvasWidth, canvasHeight, alignmentRow}
-use Rattle.drawing.specs.Redraw.{footWithoutHead, splits}
+use Rattle.drawing.specs.Redraw.{footWithoutHead}
 use Rattle.seq.proofs.Tests.{bool-cases}
 use Rattle.drawing.proofs.OffsetLaws.{offsets-zero}
 use Rattle.drawing.proofs.RowLaws.{flat}
 use Rattle.drawing.proofs.RuleRows.{Lined, flat-rule, flat-no-rule}
 use Rattle.drawing.proofs.KeptLaws.{Kept}
 use Rattle.drawing.proofs.SectionOrder.{head-is, body-is, foot-is, heads, footAt, Parted, head-ends, foot-starts, head-first}
-use Rattle.drawing.proofs.CanvasLaws.{Fine, yAt, cellBox, canvas-height, yAt-up, yAt-le, frames}
+use Rattle.drawing.proofs.CanvasLaws.{Fine, yAt, canvas-height, yAt-up, yAt-le, frames}
 use Rattle.drawing.proofs.LinedLaws.{rules-are, rules-where, rules-low, canvas-lined}
 use Rattle.drawing.proofs.GlyphRows.{canvasLines-length, isSeparator-flat, grid-height}
-use Rattle.drawing.proofs.CellsBack.{lines, g, frames-cover, rowLines-back, ys-length}
+use Rattle.drawing.proofs.CellsBack.{lines, g, Unsplit, frames-cover, rowLines-back, ys-length}
 use Rattle.drawing.proofs.ReadRules.{table-rows, section-of}
 
 -- the rules once each, in order: without a Head, without a Foot
@@ -234,7 +234,7 @@ module _ {t : Table} (F : Fine t) (o : ℕ) where
       ∙ ap (λ (m : ℕ). sectionBy (firstOf sepsT) (lastButOne m sepsT) (yAt t i)) last-is
       ∙ section-by k i u
 
-  module _ (unsplit : (c : TableCell) → List·Memᴰ c (t .cells) → splits (g F o) (cellBox t c .frame) ≡ false) where
+  module _ (unsplit : Unsplit F o) where
     abbrev fs : List Rect
     fs = frames F
 

@@ -2,13 +2,12 @@
 -- as they are (`widths-again`). So a table that reads back as the same one has the same drawing (`readBack-widths`, `readBack-drawn`).
 use Prim.Native.Nat.{ℕ, suc, _+_, _<_, max}
 use mathlib.Core.Path.{_≡_, sym, ap, ap₂, _∙_}
-use mathlib.Core.Bool.{false}
 use mathlib.Core.List.{List, map, List·Memᴰ, Memᴰ·of-map}
 use native.Mathlib.Omega.{arith}
 use lib.ListN.{length, getD, length-map}
 use lib.Seq.{ext-getD}
 use Rattle.seq.proofs.Positions.{getD-map}
-use Rattle.grid.specs.Values.{GridTableColumn, TableCell, Table}
+use Rattle.grid.specs.Values.{GridTableColumn, Table}
 use Rattle.grid.specs.Layout.{Between, between, columnLines, columnsRead, layoutOf}
 use Rattle.grid.specs.Cut.{tableOf}
 use Rattle.grid.specs.Same.{normal}
@@ -17,13 +16,12 @@ use Rattle.grid.specs.declared.TableAlignment.the-variants.{None}
 use Rattle.grid.proofs.LayoutLaws.{length-between, between-at}
 use Rattle.drawing.specs.Sizes.{Need, leastWidth, startWidth, widthNeed, fit, widths, offsets}
 use Rattle.drawing.specs.Plain.{drawn}
-use Rattle.drawing.specs.Redraw.{splits}
 use Rattle.drawing.proofs.FitLaws.{Asks, fit-again}
 use Rattle.drawing.proofs.OffsetLaws.{offsets-step}
 use Rattle.drawing.proofs.KeptLaws.{Kept}
-use Rattle.drawing.proofs.CanvasLaws.{Fine, alignmentIn, cellBox, widths-length, widths-least, frames}
+use Rattle.drawing.proofs.CanvasLaws.{Fine, alignmentIn, widths-length, widths-least, frames}
 use Rattle.drawing.proofs.SameDrawn.{bareColumn, same-needs, same-drawn}
-use Rattle.drawing.proofs.CellsBack.{lines, g, columnLines-back, xs-length}
+use Rattle.drawing.proofs.CellsBack.{lines, g, Unsplit, columnLines-back, xs-length}
 use Rattle.drawing.proofs.SectionsBack.{Headed}
 use Rattle.drawing.proofs.AlignmentsBack.{columns-length}
 use Rattle.drawing.proofs.ReadsBack.{readBack, AlignmentsKept, readBack-same}
@@ -43,7 +41,7 @@ module _ {t : Table} (U : Kept t) where
   widths-again = fit-again (map startWidth (t .columns)) (map widthNeed (t .cells)) width-asks
 
 -- ---- the widths read
-module _ {t : Table} (F : Fine t) (o : ℕ) (unsplit : (c : TableCell) → List·Memᴰ c (t .cells) → splits (g F o) (cellBox t c .frame) ≡ false) where
+module _ {t : Table} (F : Fine t) (o : ℕ) (unsplit : Unsplit F o) where
   abbrev read : List GridTableColumn
   read = columnsRead (lines F o) (g F o) (frames F)
 
@@ -84,7 +82,7 @@ module _ {t : Table} (F : Fine t) (o : ℕ) (unsplit : (c : TableCell) → List�
         ∙ omega (arith, widths-least t c u))
 
   -- ---- the table read back
-  module _ (k : Headed F o) (keep : AlignmentsKept F o unsplit) where
+  module _ (k : Headed F o) (keep : AlignmentsKept t) where
     abbrev u : Table
     u = readBack F o unsplit
 

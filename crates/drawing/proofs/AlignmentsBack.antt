@@ -13,6 +13,7 @@ use lib.ListN.{length, getD, drop, length-map}
 use Rattle.seq.specs.Lists.{range, upTo, any, lastD}
 use Rattle.seq.proofs.Tests.{true-not-false, bool-same, and-false, le-or-lt}
 use Rattle.seq.proofs.Ranges.{length-range, rest-of-range, last-of-range}
+use Rattle.seq.proofs.Finds.{FirstIn}
 use Rattle.seq.proofs.Positions.{getD-map}
 use Rattle.text.specs.Characters.{plus, colon}
 use Rattle.text.specs.Rule.{toPlus}
@@ -27,7 +28,6 @@ use Rattle.grid.proofs.LayoutLaws.{length-between, getD-between}
 use Rattle.grid.proofs.SpanSlotLaws.{glyphOf-plus}
 use Rattle.drawing.specs.Plain.{Canvas, canvasAt, canvasOf, canvasWidth, cornerAt, alignmentRow, nextCorner, hasLeftColon, hasRightColon, hasCorner, leftColon, rightColon}
 use Rattle.drawing.specs.Redraw.{insideSegment, colonsMisplaced}
-use Rattle.seq.proofs.Finds.{FirstIn}
 use Rattle.drawing.proofs.BoxLaws.{border, border-or-inside}
 use Rattle.drawing.proofs.RowLaws.{edgeByte}
 use Rattle.drawing.proofs.RuleRows.{colonIn, Lined, flat-clear, edgeByte-plus, edgeByte-other, fillOf, fillOf-other, edgeByte-corner, corners-apart}

@@ -29,10 +29,10 @@ use Rattle.drawing.specs.Plain.{Box, Canvas, boxOf, canvasAt, canvasOf, 
 use Rattle.drawing.proofs.MeasureLaws.{widest-measure}
 use Rattle.drawing.proofs.FitLaws.{fit-grows, fit-meets}
 use Rattle.drawing.proofs.OffsetLaws.{offsets-last, offsets-have, offset-up, offset-le, offset-lt, offset-same, offset-place, offset-leb, offset-ltb}
+use Rattle.drawing.proofs.KeptLaws.{Lies, Kept}
 use Rattle.drawing.proofs.BoxLaws.{Sized, Tiled}
 use Rattle.drawing.proofs.RowLaws.{Fits, Written}
 use Rattle.drawing.proofs.RuleRows.{Side}
-use Rattle.drawing.proofs.KeptLaws.{Lies, Kept}
 
 -- ---- sizes
 least-one : (a : TableAlignment) → 1 ≤ leastWidth a

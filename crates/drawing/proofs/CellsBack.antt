@@ -17,25 +17,25 @@ use Rattle.grid.specs.Slots.{Grid, gridOf}
 use Rattle.grid.specs.Trace.{covered, trace}
 use Rattle.grid.specs.Layout.{columnLines, rowLines, indexOf, cellRead, layoutOf}
 use Rattle.grid.specs.Cut.{tableCell, tableOf}
-use Rattle.grid.specs.Cover.{Bordered, First, Cover, holds}
 use Rattle.grid.specs.Same.{drawnLines, normalCell}
+use Rattle.grid.specs.Cover.{Bordered, First, Cover, holds}
 use Rattle.grid.proofs.LayoutLaws.{columnLines-rise, rowLines-rise, columnLines-edges, rowLines-edges}
+use Rattle.grid.proofs.TileLaws.{Tiles, tiles-traced}
+use Rattle.grid.proofs.DrawnLineLaws.{dropped-rows, drawn-trimmed, drawn-dropped, drawn-again}
 use Rattle.grid.proofs.CellLaws.{cutAt, cell-lines}
 use Rattle.drawing.specs.Sizes.{widths, heights, offsets}
 use Rattle.drawing.specs.Plain.{Box, Canvas, boxOf, canvasOf, canvasWidth, canvasHeight, canvasLines}
 use Rattle.drawing.specs.Redraw.{splits}
+use Rattle.drawing.proofs.ReadRules.{cell, table-cells}
 use Rattle.drawing.proofs.OffsetLaws.{offsets-length, offsets-only, offsets-index}
+use Rattle.drawing.proofs.KeptLaws.{Kept}
 use Rattle.drawing.proofs.BoxLaws.{box-at}
 use Rattle.drawing.proofs.RuleRows.{Lined}
-use Rattle.drawing.proofs.KeptLaws.{Kept}
 use Rattle.drawing.proofs.CanvasLaws.{Fine, xAt, yAt, cellBox, widths-length, heights-length, canvas-width, canvas-height, box-cell, cell-box, cell-tall, canvas-tiled, frames, frames-cells, frame-cell, frames-ordered, frames-few}
 use Rattle.drawing.proofs.LinedLaws.{canvas-lined}
 use Rattle.drawing.proofs.GlyphRows.{grid-width, grid-height, glyphAt-gap, box-bordered}
 use Rattle.drawing.proofs.FirstBoxes.{unsplit-first, Part, split-first}
-use Rattle.grid.proofs.TileLaws.{Tiles, tiles-traced}
 use Rattle.drawing.proofs.CutBoxes.{cutAt-box}
-use Rattle.grid.proofs.DrawnLineLaws.{dropped-rows, drawn-trimmed, drawn-dropped, drawn-again}
-use Rattle.drawing.proofs.ReadRules.{cell, table-cells}
 
 module _ {t : Table} (F : Fine t) (o : ℕ) where
   abbrev v : Canvas

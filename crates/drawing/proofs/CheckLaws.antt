@@ -9,8 +9,8 @@ use native.Mathlib.Omega.{arith}
 use borrow.Author.Tests.{not-false}
 use lib.ListN.{length}
 use Rattle.seq.specs.Lists.{upTo, isEmpty}
-use Rattle.seq.proofs.Tests.{or-neither}
 use Rattle.seq.proofs.ListsLaws.{some-length}
+use Rattle.seq.proofs.Tests.{or-neither}
 use Rattle.seq.proofs.Ranges.{mem-range, range-mem}
 use Rattle.seq.proofs.Searches.{firstAt-none, firstAt-nothing}
 use Rattle.seq.proofs.Finds.{find-nothing, find-none}

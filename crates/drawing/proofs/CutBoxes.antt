@@ -21,9 +21,9 @@ use Rattle.grid.specs.Slots.{Grid, Slot, Other, vertical, glyphOf, slotsFrom, g
 use Rattle.grid.specs.Layout.{contentAt}
 use Rattle.grid.specs.Cut.{part, afterFirst, cut}
 use Rattle.grid.proofs.RectangleLaws.{rect}
-use Rattle.grid.proofs.CellLaws.{cutAt}
 use Rattle.grid.proofs.SpanSlotLaws.{slots-at, slots-count, slot-head, slot-inside}
 use Rattle.grid.proofs.DrawnLineLaws.{inner-cut}
+use Rattle.grid.proofs.CellLaws.{cutAt}
 use Rattle.drawing.specs.Plain.{Box, Canvas, canvasWidth, canvasHeight, innerLine, canvasLines}
 use Rattle.drawing.proofs.BoxLaws.{Sized, Tiled}
 use Rattle.drawing.proofs.RowLaws.{textColumns, text-spans, edgeByte, flat, flat-cut, flat-inner, drawnLine-text, border-left, border-right, flat-border, flat-left, flat-around}

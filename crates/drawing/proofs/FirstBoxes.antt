@@ -10,6 +10,7 @@ use Rattle.seq.specs.Lists.{all}
 use Rattle.seq.proofs.Tests.{true-not-false, and-left, and-right, and-intro, le-or-lt}
 use Rattle.seq.proofs.Ranges.{mem-range}
 use Rattle.seq.proofs.Searches.{any-none, all-range, range-all}
+use Rattle.seq.proofs.Finds.{first-in}
 use Rattle.grid.specs.Values.{Rect}
 use Rattle.grid.specs.Slots.{Grid, Plus, Other, isPlus, horizontal, vertical, glyphAt}
 use Rattle.grid.specs.Rectangle.{plusAt}
@@ -17,7 +18,6 @@ use Rattle.grid.specs.Layout.{innerLines}
 use Rattle.grid.specs.Cover.{Bordered, First}
 use Rattle.grid.proofs.RectangleLaws.{rect, plus-is}
 use Rattle.drawing.specs.Redraw.{splitsAt, splits}
-use Rattle.seq.proofs.Finds.{first-in}
 
 module _ {g : Grid} {q : Rect} (h : Bordered g q) (gap : (y : ℕ) → q .top < y → y < q .bottom → glyphAt g y (q .left + 1) ≡ Other) where
   -- up to a column at which it splits, a bordered rectangle is bordered

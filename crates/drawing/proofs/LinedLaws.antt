@@ -12,25 +12,25 @@ use borrow.Author.Tests.{eqb-true, eq-eqb}
 use lib.ListN.{length, getD}
 use Rattle.seq.specs.Lists.{upTo, any, count, orDefault}
 use Rattle.seq.proofs.Tests.{true-not-false, and-left, and-right, and-intro, or-cases, or-left, or-right}
-use Rattle.seq.proofs.Walks.{or-false}
 use Rattle.seq.proofs.Ranges.{mem-range, range-mem}
 use Rattle.seq.proofs.Searches.{any-mem, mem-any}
+use Rattle.seq.proofs.Finds.{FirstIn, first-in, range-any, find-first}
+use Rattle.seq.proofs.Walks.{or-false}
 use Rattle.grid.specs.Values.{TableCell, Table}
 use Rattle.grid.specs.Layout.{firstOf}
-use Rattle.grid.proofs.SkylineLaws.{Inside}
 use Rattle.grid.specs.declared.TableAlignment.{TableAlignment}
 use Rattle.grid.specs.declared.TableAlignment.the-variants.{None, Left, Right, Center}
 use Rattle.grid.specs.declared.GridTableSection.{GridTableSection}
 use Rattle.grid.specs.declared.GridTableSection.the-variants.{Body}
+use Rattle.grid.proofs.SkylineLaws.{Inside}
 use Rattle.drawing.specs.GridRules.{isFoot}
 use Rattle.drawing.specs.Sizes.{leastWidth, widths, offsets}
 use Rattle.drawing.specs.Plain.{Box, Canvas, boxOf, ruleLines, canvasAt, canvasOf, canvasWidth, canvasHeight, cornerAt, alignmentRow, nextCorner, hasLeftColon, hasRightColon, drawsColon}
-use Rattle.seq.proofs.Finds.{FirstIn, first-in, range-any, find-first}
 use Rattle.drawing.proofs.OffsetLaws.{offsets-step}
-use Rattle.drawing.proofs.BoxLaws.{Tiled, near-square, end-or-within, box-cornerAt, cornerAt-box, box-at}
-use Rattle.drawing.proofs.RuleRows.{colonIn, Colon, Lined}
 use Rattle.drawing.proofs.KeptLaws.{Kept}
 use Rattle.drawing.proofs.SectionOrder.{rank, same-rank, heads, footAt, Parted, head-ends, foot-starts}
+use Rattle.drawing.proofs.BoxLaws.{Tiled, near-square, end-or-within, box-cornerAt, cornerAt-box, box-at}
+use Rattle.drawing.proofs.RuleRows.{colonIn, Colon, Lined}
 use Rattle.drawing.proofs.CanvasLaws.{Fine, alignmentIn, xAt, yAt, yAt-last, cellBox, widths-length, widths-least, canvas-width, canvas-height, box-cell, xAt-up, xAt-le, yAt-le, xAt-lt, yAt-lt, canvas-tiled, canvas-written, side-xAt, canvas-spaced}
 
 -- ---- the lines that bear `=`

@@ -11,14 +11,14 @@ use lib.Dec.{eqb, ltb}
 use lib.ListN.{length, getD, length-map}
 use lib.Seq.{ext-getD}
 use Rattle.seq.specs.Lists.{any, isEmpty}
-use Rattle.seq.proofs.Tests.{true-not-false}
 use Rattle.seq.proofs.ListsLaws.{length-some}
+use Rattle.seq.proofs.Tests.{true-not-false}
 use Rattle.seq.proofs.Positions.{getD-map}
 use Rattle.seq.proofs.Gathered.{first-nowhere}
 use Rattle.text.specs.Utf8.{wellFormed}
 use Rattle.text.specs.Rule.{isRule}
-use Rattle.grid.specs.Limits.{maxWidth}
 use Rattle.grid.specs.Answer.{accept}
+use Rattle.grid.specs.Limits.{maxWidth}
 use Rattle.grid.specs.Values.{Line, GridTableColumn, Table}
 use Rattle.grid.specs.Slots.{dash}
 use Rattle.grid.specs.Layout.{columnsRead, layoutOf}
@@ -30,15 +30,15 @@ use Rattle.grid.specs.declared.TableAlignment.the-variants.{None, Left, Right, 
 use Rattle.grid.proofs.SlotLaws.{row-at, no-wrong-row}
 use Rattle.drawing.specs.Plain.{Canvas, canvasOf, canvasAt, canvasHeight, cornerAt, alignmentRow, hasLeftColon, hasRightColon, columnAlignment, leftColon, rightColon, canvasLines}
 use Rattle.drawing.specs.Redraw.{footWithoutHead, insideSegment, colonsMisplaced, misaligned, drawnTooLarge, splitCell}
+use Rattle.drawing.proofs.LimitLaws.{drawnTooLarge-parts}
 use Rattle.drawing.proofs.RowLaws.{drawnLine-text, flat-slots, flat-spans}
 use Rattle.drawing.proofs.RuleRows.{flat-first-rule}
 use Rattle.drawing.proofs.CanvasLaws.{Fine, alignmentIn, xAt, canvas-columns, cell-box, frames}
-use Rattle.drawing.proofs.LimitLaws.{drawnTooLarge-parts}
+use Rattle.drawing.proofs.CheckLaws.{misaligned-none, splitCell-none}
 use Rattle.drawing.proofs.GlyphRows.{canvasLines-length, canvasLines-at, trimmedAt-flat, rows-flat, grid-width, zero-low}
 use Rattle.drawing.proofs.CellsBack.{lines, g, L, Unsplit, frames-traced, cells-same}
 use Rattle.drawing.proofs.SectionsBack.{Headed, headed, rules-below, sections-back}
 use Rattle.drawing.proofs.AlignmentsBack.{columns-length, alignment-back}
-use Rattle.drawing.proofs.CheckLaws.{misaligned-none, splitCell-none}
 use Rattle.drawing.proofs.SameDrawn.{bareColumn}
 
 -- column c is read with its alignment: it has none, or a corner at its left on the alignment line

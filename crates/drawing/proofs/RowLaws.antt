@@ -14,19 +14,19 @@ use borrow.Author.Tests.{eqb-true, eq-eqb}
 use lib.ListN.{length, getD, replicate}
 use Rattle.seq.specs.Lists.{range, sum, any}
 use Rattle.seq.proofs.Tests.{true-not-false, and-left, and-right, and-intro, refused, le-or-lt}
+use Rattle.seq.proofs.Ranges.{range-split}
+use Rattle.seq.proofs.Finds.{find-only, find-nothing}
 use Rattle.seq.proofs.FlatMaps.{flatMap-append}
 use Rattle.text.specs.Characters.{space, plus}
 use Rattle.text.specs.Utf8.{charIndices, wellFormed}
+use Rattle.text.specs.Columns.{columnsFrom}
 use Rattle.text.specs.Trim.{blank, trimEnd}
 use Rattle.text.proofs.TrimLaws.{trim-kept}
-use Rattle.grid.specs.Slots.{Slot, glyphOf, slotsFrom, pipe}
-use Rattle.drawing.specs.Sizes.{measure}
-use Rattle.text.specs.Columns.{columnsFrom}
-use Rattle.drawing.specs.Plain.{Box, Canvas, canvasWidth, canvasHeight, isInside, cornerAt, horizontalAt, verticalAt, colonAt, borderByte, startsInside, innerLine, innerOf, putDown, drawnLine}
-use Rattle.seq.proofs.Ranges.{range-split}
-use Rattle.seq.proofs.Finds.{find-only, find-nothing}
 use Rattle.text.proofs.SpanLaws.{Spans, Single, spans-empty, spans-cast, spans-append, spans-single, spans-spaces, single-space}
+use Rattle.grid.specs.Slots.{Slot, glyphOf, slotsFrom, pipe}
 use Rattle.grid.proofs.SpanSlotLaws.{slot-head, slots-count}
+use Rattle.drawing.specs.Sizes.{measure}
+use Rattle.drawing.specs.Plain.{Box, Canvas, canvasWidth, canvasHeight, isInside, cornerAt, horizontalAt, verticalAt, colonAt, borderByte, startsInside, innerLine, innerOf, putDown, drawnLine}
 use Rattle.drawing.proofs.MeasureLaws.{columns-measure}
 use Rattle.drawing.proofs.BoxLaws.{Within, Tiled, border, box-verticalAt, verticalAt-border, isInside-between, between-isInside, box-touched, inside-no-corner, inside-no-horizontal, inside-no-vertical, inside-no-border, border-or-inside}
 

@@ -8,18 +8,18 @@ use mathlib.Core.List.{List, [], _∷_, map, flatMap, List·Memᴰ}
 use native.Mathlib.Omega.{arith}
 use native.Mathlib.Nat.{le-refl}
 use lib.Dec.{eqb}
-use lib.ListN.{length}
 use borrow.Author.Tests.{eqb-true, eqb-false, ne-eqb}
+use lib.ListN.{length}
 use Rattle.seq.specs.Lists.{range, upTo, any}
 use Rattle.seq.proofs.Tests.{true-not-false, bool-cases, refused, or-cases}
 use Rattle.seq.proofs.Walks.{or-false}
 use Rattle.text.specs.Characters.{space, plus, colon}
 use Rattle.text.specs.Rule.{isRule}
+use Rattle.text.proofs.RuleBytes.{Ruling, rule-of-bytes, second-no-rule}
 use Rattle.grid.specs.Slots.{dash, equals}
 use Rattle.drawing.specs.Plain.{Box, Canvas, canvasWidth, canvasHeight, cornerAt, horizontalAt, verticalAt, alignmentRow, drawsColon, colonAt, borderByte, innerLine, putDown}
 use Rattle.drawing.proofs.BoxLaws.{Within, Tiled, border, End, cornerAt-box, horizontalAt-box, verticalAt-box, box-at, border-or-inside}
 use Rattle.drawing.proofs.RowLaws.{Written, edgeByte, putDown-border, putDown-inner, flat, flat-next, border-first}
-use Rattle.text.proofs.RuleBytes.{Ruling, rule-of-bytes, second-no-rule}
 
 -- a side of a box
 abbrev pub Side : Box → ℕ → Type 0

@@ -24,30 +24,30 @@ use Rattle.grid.specs.Slots.{vertical, glyphAt}
 use Rattle.grid.specs.Rectangle.{plusAt}
 use Rattle.grid.specs.Layout.{innerLines, columnsRead, layoutOf}
 use Rattle.grid.specs.Cut.{tableOf}
-use Rattle.grid.specs.Cover.{First, Cover, precedes}
 use Rattle.grid.specs.Same.{drawnLines, normalCell, normal, Same}
+use Rattle.grid.specs.Cover.{First, Cover, precedes}
 use Rattle.grid.specs.declared.TableAlignment.{TableAlignment}
 use Rattle.grid.specs.declared.TableAlignment.the-variants.{None, Left, Right, Center}
 use Rattle.grid.proofs.RectangleLaws.{rect}
 use Rattle.grid.proofs.CoverTheorems.{traced-covers}
-use Rattle.grid.proofs.ReadLaws.{Passed}
-use Rattle.grid.proofs.CellLaws.{cutAt, cell-lines}
 use Rattle.grid.proofs.TileLaws.{tiles-first-traced, tiles-prefix}
+use Rattle.grid.proofs.ReadLaws.{Passed}
 use Rattle.grid.proofs.DrawnLineLaws.{dropped-at, drawn-line-at}
+use Rattle.grid.proofs.CellLaws.{cutAt, cell-lines}
 use Rattle.drawing.specs.GridRules.{isHead, isFoot}
 use Rattle.drawing.specs.Plain.{Box, Canvas, boxOf, canvasOf, canvasAt, cornerAt, alignmentRow, hasLeftColon, hasRightColon, columnAlignment}
 use Rattle.drawing.specs.Redraw.{footWithoutHead, colonsMisplaced, misaligned, drawnTooLarge, splitsAt, splits, splitCell}
 use Rattle.drawing.proofs.ReadRules.{cell, table-cells}
 use Rattle.drawing.proofs.CanvasLaws.{Fine, alignmentIn, xAt, cellBox, canvas-columns, box-cell, cell-box, cell-sized, frames, frames-cells}
+use Rattle.drawing.proofs.CheckLaws.{misaligned-nowhere, splitCell-nowhere}
 use Rattle.drawing.proofs.GlyphRows.{grid-width, glyphAt-gap}
 use Rattle.drawing.proofs.FirstBoxes.{Part}
 use Rattle.drawing.proofs.CutBoxes.{cutAt-shorter}
 use Rattle.drawing.proofs.CellsBack.{lines, g, L, Unsplit, frames-tiles, cell-bordered, cell-first, cell-part, frames-traced}
 use Rattle.drawing.proofs.SectionsBack.{Headed, rules-below}
 use Rattle.drawing.proofs.AlignmentsBack.{colonsMisplaced-is, columns-length, alignment-back}
-use Rattle.drawing.proofs.CheckLaws.{misaligned-nowhere, splitCell-nowhere}
-use Rattle.drawing.proofs.ReadsBack.{AlignmentsKept}
 use Rattle.drawing.proofs.SameDrawn.{bareColumn}
+use Rattle.drawing.proofs.ReadsBack.{AlignmentsKept}
 
 module _ {t : Table} (F : Fine t) (o : ℕ) (rs : List Rect) (checks : Passed (lines F o) rs) (same : Same (tableOf (lines F o) (layoutOf (lines F o) (g F o) rs)) t) where
   abbrev v : Canvas

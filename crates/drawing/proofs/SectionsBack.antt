@@ -13,7 +13,7 @@ use borrow.Author.Tests.{eqb-true, eqb-false, eq-eqb, lt-ltb, le-ltb, le-leb, lt
 use lib.ListN.{length, getD}
 use lib.Seq.{ext-getD}
 use Rattle.seq.specs.Lists.{upTo, any, select, count, orDefault, neighbours}
-use Rattle.seq.proofs.Tests.{true-not-false, and-intro, refused, le-or-lt}
+use Rattle.seq.proofs.Tests.{true-not-false, and-intro, refused, le-or-lt, bool-cases}
 use Rattle.seq.proofs.Ranges.{mem-range, range-mem}
 use Rattle.seq.proofs.Searches.{any-mem, mem-any, any-eqb, eqb-any, select-mem, mem-select, count-mem, count-pick, count-few}
 use Rattle.seq.proofs.Sorted.{sorted-same}
@@ -29,17 +29,16 @@ use Rattle.drawing.specs.GridRules.{isHead, isFoot}
 use Rattle.drawing.specs.Sizes.{heights}
 use Rattle.drawing.specs.Plain.{Canvas, canvasOf, canvasWidth, canvasHeight, alignmentRow}
 use Rattle.drawing.specs.Redraw.{footWithoutHead}
-use Rattle.seq.proofs.Tests.{bool-cases}
+use Rattle.drawing.proofs.ReadRules.{table-rows, section-of}
 use Rattle.drawing.proofs.OffsetLaws.{offsets-zero}
-use Rattle.drawing.proofs.RowLaws.{flat}
-use Rattle.drawing.proofs.RuleRows.{Lined, flat-rule, flat-no-rule}
 use Rattle.drawing.proofs.KeptLaws.{Kept}
 use Rattle.drawing.proofs.SectionOrder.{head-is, body-is, foot-is, heads, footAt, Parted, head-ends, foot-starts, head-first}
+use Rattle.drawing.proofs.RowLaws.{flat}
+use Rattle.drawing.proofs.RuleRows.{Lined, flat-rule, flat-no-rule}
 use Rattle.drawing.proofs.CanvasLaws.{Fine, yAt, canvas-height, yAt-up, yAt-le, frames}
 use Rattle.drawing.proofs.LinedLaws.{rules-are, rules-where, rules-low, canvas-lined}
 use Rattle.drawing.proofs.GlyphRows.{canvasLines-length, isSeparator-flat, grid-height}
 use Rattle.drawing.proofs.CellsBack.{lines, g, Unsplit, frames-cover, rowLines-back, ys-length}
-use Rattle.drawing.proofs.ReadRules.{table-rows, section-of}
 
 -- the rules once each, in order: without a Head, without a Foot
 seps : (a b : Bool) → ℕ → ℕ → ℕ → List ℕ

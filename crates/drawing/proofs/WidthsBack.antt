@@ -20,10 +20,10 @@ use Rattle.drawing.proofs.FitLaws.{Asks, fit-again}
 use Rattle.drawing.proofs.OffsetLaws.{offsets-step}
 use Rattle.drawing.proofs.KeptLaws.{Kept}
 use Rattle.drawing.proofs.CanvasLaws.{Fine, alignmentIn, widths-length, widths-least, frames}
-use Rattle.drawing.proofs.SameDrawn.{bareColumn, same-needs, same-drawn}
 use Rattle.drawing.proofs.CellsBack.{lines, g, Unsplit, columnLines-back, xs-length}
 use Rattle.drawing.proofs.SectionsBack.{Headed}
 use Rattle.drawing.proofs.AlignmentsBack.{columns-length}
+use Rattle.drawing.proofs.SameDrawn.{bareColumn, same-needs, same-drawn}
 use Rattle.drawing.proofs.ReadsBack.{readBack, AlignmentsKept, readBack-same}
 
 module _ {t : Table} (U : Kept t) where

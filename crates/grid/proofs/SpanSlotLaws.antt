@@ -11,8 +11,8 @@ use lib.Seq.{getD-at}
 use Rattle.seq.proofs.Positions.{getD-mem}
 use Rattle.text.specs.Characters.{plus, span}
 use Rattle.text.specs.Utf8.{CharIndex, charsFrom, charIndices}
-use Rattle.text.proofs.Utf8Laws.{character-ascii}
 use Rattle.text.specs.Columns.{columnsFrom}
+use Rattle.text.proofs.Utf8Laws.{character-ascii}
 use Rattle.text.proofs.SpanLaws.{chars-append, Spans, Single, single-span}
 use Rattle.grid.specs.Slots.{Slot, Plus, Dash, Pipe, Other, isPlus, glyphOf, dash, pipe, slotsFrom}
 use Rattle.grid.proofs.ByteLaws.{char-byte, slot-character}

@@ -17,11 +17,11 @@ use Rattle.grid.specs.Values.{Rect}
 use Rattle.grid.specs.Slots.{Grid}
 use Rattle.grid.specs.Trace.{covered, trace}
 use Rattle.grid.specs.Cover.{Bordered, First, Cover, holds, precedes}
-use Rattle.grid.proofs.SkylineLaws.{Inside, inside-holds, holds-inside}
 use Rattle.grid.proofs.RectangleLaws.{first-unique}
+use Rattle.grid.proofs.SkylineLaws.{Inside, inside-holds, holds-inside}
 use Rattle.grid.proofs.CoverLaws.{own-corner}
-use Rattle.grid.proofs.LayoutLaws.{holder, same-holder}
 use Rattle.grid.proofs.CoverTheorems.{precedes-strict, traced-exactly}
+use Rattle.grid.proofs.LayoutLaws.{holder, same-holder}
 
 pub record Tiles (g : Grid) (fs : List Rect) : Type 0 where
   pub tall : 1 < g .height

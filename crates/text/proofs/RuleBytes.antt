@@ -8,8 +8,8 @@ use mathlib.Core.List.{List, [], _∷_, _++_, map, append-assoc, append-nil}
 use native.Mathlib.Omega.{arith}
 use native.Mathlib.Nat.{le-refl, eq-or-lt-of-le}
 use lib.Dec.{eqb}
-use lib.ListN.{replicate}
 use borrow.Author.Tests.{eq-eqb, ne-eqb}
+use lib.ListN.{replicate}
 use Rattle.seq.specs.Lists.{range, upTo, all, any}
 use Rattle.seq.proofs.Tests.{and-intro, and-false, or-none}
 use Rattle.text.specs.Characters.{plus, colon}

@@ -62,7 +62,7 @@ columns-append c (x ∷ a) b =
     omega (arith, columns-append (c + s) a b)
 
 -- columns do not depend on where the bytes start
-pub columns-anywhere : (c at from skip : ℕ) (s : List ℕ) → columnsFrom c (charsFrom at skip s) ≡ columnsFrom c (charsFrom from skip s)
+columns-anywhere : (c at from skip : ℕ) (s : List ℕ) → columnsFrom c (charsFrom at skip s) ≡ columnsFrom c (charsFrom from skip s)
 unfolding charsFrom columnsFrom
 columns-anywhere c at from skip [] = refl
 columns-anywhere c at from (suc skip) (b ∷ bs) = columns-anywhere c (at + 1) (from + 1) skip bs

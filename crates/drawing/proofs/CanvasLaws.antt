@@ -1,10 +1,10 @@
 -- The canvas of a table that keeps the grid rules (`Fine`): its boxes hold every square once (`canvas-tiled`), their lines fit them
 -- (`canvas-written`), they stand in order (`frames-ordered`). `xAt` and `yAt` are its column and row lines, `cellBox` a cell's box.
-use Prim.Native.Nat.{ℕ, zero, suc, _+_, _≤_, _<_}
+use Prim.Native.Nat.{ℕ, suc, _+_, _≤_, _<_}
 use mathlib.Core.Path.{_≡_, refl, sym, ap, ap₂, subst, _∙_}
 use mathlib.Core.Bool.{true, _&&_}
 use mathlib.Core.Logic.{_⊎_, inl, inr, ⊎-elim}
-use mathlib.Core.List.{List, [], _∷_, map, map-map, List·Memᴰ, List·Memᴰ·head, List·Memᴰ·tail, Memᴰ·map, Memᴰ·of-map}
+use mathlib.Core.List.{List, [], map, map-map, List·Memᴰ, Memᴰ·map, Memᴰ·of-map}
 use native.Mathlib.Omega.{arith}
 use native.Mathlib.Nat.{le-refl, le-trans}
 use lib.ListN.{length, getD, length-map}
@@ -13,7 +13,8 @@ use Rattle.seq.proofs.Tests.{lex-above, lex-beside, lex-cases}
 use Rattle.seq.proofs.Searches.{count-map, count-agree, neighbours-map, neighbours-imply}
 use Rattle.seq.proofs.Positions.{getD-map}
 use Rattle.seq.proofs.Pointwise.{pointwise-length, pointwise-at}
-use Rattle.text.specs.Utf8.{wellFrom, wellFormed}
+use Rattle.text.specs.Utf8.{wellFormed}
+use Rattle.text.proofs.Utf8Laws.{well-line}
 use Rattle.text.proofs.PartLaws.{well-trimmed}
 use Rattle.grid.specs.Values.{Rect, TableCell, Table}
 use Rattle.grid.specs.Same.{drawnLines}
@@ -104,12 +105,6 @@ module _ (t : Table) where
   pub canvas-columns : canvasOf t .columns ≡ t .columns
   unfolding canvasOf canvasAt
   canvas-columns = refl
-
-well-at : (ls : List (List ℕ)) → ((l : List ℕ) → List·Memᴰ l ls → wellFormed l ≡ true) → (i : ℕ) → wellFormed (getD ls i []) ≡ true
-unfolding wellFrom
-well-at [] h i = refl
-well-at (l ∷ ls) h zero = h l (List·Memᴰ·head refl)
-well-at (l ∷ ls) h (suc i) = well-at ls (λ k m. h k (List·Memᴰ·tail m)) i
 
 -- a table that redraw's checks 1, 2, 3 and 8 let pass
 pub record Fine (t : Table) : Type 0 where
@@ -231,7 +226,7 @@ module _ {t : Table} (F : Fine t) where
   unfolding boxOf
   cell-fits {c} m i =
       record {
-        well = ap wellFormed (drawn-line-at (c .lines) i) ∙ well-trimmed (getD (c .lines) i []) (well-at (c .lines) (F .well c m) i);
+        well = ap wellFormed (drawn-line-at (c .lines) i) ∙ well-trimmed (getD (c .lines) i []) (well-line (c .lines) (F .well c m) i);
         fits = omega (arith, cell-broad m, widest-measure (drawnLines (c .lines)) i);
       }
 

@@ -21,7 +21,7 @@ use Rattle.grid.specs.Same.{drawnLines, normalCell}
 use Rattle.grid.specs.Cover.{Bordered, First, Cover, holds}
 use Rattle.grid.proofs.LayoutLaws.{columnLines-rise, rowLines-rise, columnLines-edges, rowLines-edges}
 use Rattle.grid.proofs.TileLaws.{Tiles, tiles-traced}
-use Rattle.grid.proofs.DrawnLineLaws.{dropped-rows, drawn-trimmed, drawn-dropped, drawn-again}
+use Rattle.grid.proofs.DrawnLineLaws.{dropped-rows, drawn-trimmed, drawn-dropped, normal-again}
 use Rattle.grid.proofs.CellLaws.{cutAt, cell-lines}
 use Rattle.drawing.specs.Sizes.{widths, heights, offsets}
 use Rattle.drawing.specs.Plain.{Box, Canvas, boxOf, canvasOf, canvasWidth, canvasHeight, canvasLines}
@@ -229,14 +229,8 @@ module _ {t : Table} (F : Fine t) (o : ℕ) where
         ∙ map-map (cell lines g fs frames-cover) (λ (c : TableCell). cellBox t c .frame) (t .cells)
         ∙ map-same (λ (c : TableCell). cell lines g fs frames-cover (cellBox t c .frame)) normalCell (t .cells) cell-back
 
-    normal-again : (c : TableCell) → List·Memᴰ c (t .cells) → normalCell (normalCell c) ≡ normalCell c
-    unfolding normalCell
-    normal-again c m =
-        let l = drawn-again (c .lines) in
-        λ i. record { row = c .row; column = c .column; colspan = c .colspan; rowspan = c .rowspan; lines = l i }
-
     -- the cells read are the same
     pub cells-same : map normalCell (tableOf lines (layoutOf lines g fs) .cells) ≡ map normalCell (t .cells)
     cells-same =
         ap (map normalCell) cells-back ∙ map-map normalCell normalCell (t .cells)
-        ∙ map-same (λ (c : TableCell). normalCell (normalCell c)) normalCell (t .cells) normal-again
+        ∙ map-same (λ (c : TableCell). normalCell (normalCell c)) normalCell (t .cells) (λ c m. normal-again c)

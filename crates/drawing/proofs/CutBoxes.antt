@@ -1,20 +1,19 @@
 -- Cutting a drawing at a box gives the box's lines back (`cutAt-box`). Cut at a column inside that shows a border, a line comes out
 -- shorter than it is (`cutAt-shorter`).
-use Prim.Native.Nat.{ℕ, zero, suc, _+_, _-_, _≤_, _<_}
+use Prim.Native.Nat.{ℕ, suc, _+_, _-_, _≤_, _<_}
 use mathlib.Core.Path.{_≡_, refl, sym, ap, _∙_}
 use mathlib.Core.Bool.{Bool, true, false}
 use mathlib.Core.Logic.{⊎-elim}
 use mathlib.Core.List.{List, [], _∷_, _++_, append-assoc, List·Memᴰ}
 use native.Mathlib.Omega.{arith}
-use native.Mathlib.Nat.{le-trans, eq-or-lt-of-le}
-use lib.ListN.{length, getD, take, drop, replicate, length-append, length-take, List·getD-append, replicate-append-replicate}
+use native.Mathlib.Nat.{eq-or-lt-of-le}
+use lib.ListN.{length, getD, take, drop, replicate, length-append, List·getD-append, replicate-append-replicate}
 use lib.Seq.{take-append-seam, drop-append-seam}
 use Rattle.seq.proofs.Tests.{true-not-false, le-or-lt}
 use Rattle.text.specs.Characters.{space}
 use Rattle.text.specs.Utf8.{charsFrom, charIndices}
 use Rattle.text.specs.Columns.{columnsFrom}
-use Rattle.text.specs.Trim.{beforeTrimmed, trimEnd}
-use Rattle.text.proofs.TrimLaws.{trim-shorter}
+use Rattle.text.specs.Trim.{trimEnd}
 use Rattle.text.proofs.SpanLaws.{Spans, spans-cast, spans-append, spans-single, spans-spaces, single-space}
 use Rattle.grid.specs.Values.{Line}
 use Rattle.grid.specs.Slots.{Grid, Slot, Other, vertical, glyphOf, slotsFrom, gridOf, slotAt, glyphAt, byteAt}
@@ -22,22 +21,13 @@ use Rattle.grid.specs.Layout.{contentAt}
 use Rattle.grid.specs.Cut.{part, afterFirst, cut}
 use Rattle.grid.proofs.RectangleLaws.{rect}
 use Rattle.grid.proofs.SpanSlotLaws.{slots-at, slots-count, slot-head, slot-inside}
-use Rattle.grid.proofs.DrawnLineLaws.{inner-cut}
+use Rattle.grid.proofs.DrawnLineLaws.{inner-cut, first-shorter}
 use Rattle.grid.proofs.CellLaws.{cutAt}
 use Rattle.drawing.specs.Plain.{Box, Canvas, canvasWidth, canvasHeight, innerLine, canvasLines}
 use Rattle.drawing.proofs.BoxLaws.{Sized, Tiled}
 use Rattle.drawing.proofs.RowLaws.{textColumns, text-spans, edgeByte, flat, flat-cut, flat-inner, drawnLine-text, border-left, border-right, flat-border, flat-left, flat-around}
 use Rattle.drawing.proofs.RuleRows.{Lined}
 use Rattle.drawing.proofs.GlyphRows.{ruleAt, canvasLines-at, rows-flat, slotAt-border, ruleAt-inner, glyphAt-gap}
-
--- the cut of a text that begins with a space, n bytes of it, is shorter than n
-short-cut : (line byte column n : ℕ) (r : List ℕ) (m : ℕ) → n ≤ m → 0 < m → length (afterFirst (trimEnd (take n (space ∷ r))) line byte column .text) < m
-unfolding trimEnd afterFirst
-short-cut line byte column zero r m u w = w
-short-cut line byte column (suc n) r m u w = go (trimEnd (take n r)) (le-trans (trim-shorter (take n r)) (omega (arith, length-take n r))) where
-  go : (q : List ℕ) → length q ≤ n → length (afterFirst (beforeTrimmed space q) line byte column .text) < m
-  go [] h = w
-  go (b ∷ q) h = omega arith
 
 module _ {v : Canvas} (L : Lined v) (o : ℕ) {b : Box} (m : List·Memᴰ b (v .boxes)) (y : ℕ) (u : b .frame .top < y) (w : y < b .frame .bottom) where
   P : Tiled v
@@ -190,4 +180,4 @@ module _ {v : Canvas} (L : Lined v) (o : ℕ) {b : Box} (m : List·Memᴰ b (v .
       let made : cutAt (canvasLines o v) g (rect (b .frame .top) (b .frame .left) (b .frame .bottom) c) y .text
       ≡ afterFirst (trimEnd (take (D - B) (space ∷ r .0))) y (0 + B) (given .column + b .frame .left + 1) .text =
       ap (λ (l : List ℕ). afterFirst (trimEnd (take (D - B) l)) y (0 + B) (given .column + b .frame .left + 1) .text) tail in
-      rw made (short-cut y (0 + B) (given .column + b .frame .left + 1) (D - B) (r .0) (length text) (omega (arith, in-text c early)) some-text)
+      rw made (first-shorter y (0 + B) (given .column + b .frame .left + 1) (D - B) (r .0) (length text) (omega (arith, in-text c early)) some-text)

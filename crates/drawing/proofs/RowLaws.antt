@@ -13,7 +13,7 @@ use lib.Dec.{eqb}
 use borrow.Author.Tests.{eqb-true, eq-eqb}
 use lib.ListN.{length, getD, replicate}
 use Rattle.seq.specs.Lists.{range, sum, any}
-use Rattle.seq.proofs.Tests.{true-not-false, and-left, and-right, and-intro, refused, le-or-lt}
+use Rattle.seq.proofs.Tests.{true-not-false, cond-either, and-left, and-right, and-intro, refused, le-or-lt}
 use Rattle.seq.proofs.Ranges.{range-split}
 use Rattle.seq.proofs.Finds.{find-only, find-nothing}
 use Rattle.seq.proofs.FlatMaps.{flatMap-append}
@@ -65,16 +65,12 @@ innerLine-spans o b y t =
 unfoldable pub edgeByte : Canvas → ℕ → ℕ → ℕ
 edgeByte v y x = cond (cornerAt v y x) plus (cond (horizontalAt v y x) (borderByte v y x) pipe)
 
-single-cond : (t : Bool) {a b : ℕ} → Single a → Single b → Single (cond t a b)
-single-cond true p q = p
-single-cond false p q = q
-
 edgeByte-single : (v : Canvas) (y x : ℕ) → Single (edgeByte v y x)
 unfolding edgeByte borderByte
 edgeByte-single v y x =
-    single-cond (cornerAt v y x) (record { low = omega arith; high = omega arith })
-    (single-cond (horizontalAt v y x)
-    (single-cond (colonAt v y x) (record { low = omega arith; high = omega arith }) (single-cond (any (eqb y) (v .rules)) (record { low = omega arith; high = omega arith }) (record { low = omega arith; high = omega arith })))
+    cond-either Single (cornerAt v y x) (record { low = omega arith; high = omega arith })
+    (cond-either Single (horizontalAt v y x)
+    (cond-either Single (colonAt v y x) (record { low = omega arith; high = omega arith }) (cond-either Single (any (eqb y) (v .rules)) (record { low = omega arith; high = omega arith }) (record { low = omega arith; high = omega arith })))
     (record { low = omega arith; high = omega arith }))
 
 pub putDown-border : (o : ℕ) (v : Canvas) (y x : ℕ) → border v y x ≡ true → putDown o v y x ≡ edgeByte v y x ∷ []
@@ -279,15 +275,13 @@ module _ {v : Canvas} (R : Written v) (o y : ℕ) (low : y < canvasHeight v) whe
   flat-slots rule = slots-count rule flat-spans
 
   -- a drawn line ends in a border, and is trimmed as it stands
-  kept-cond : (t : Bool) (a b : ℕ) → blank a ≡ false → blank b ≡ false → blank (cond t a b) ≡ false
-  kept-cond true a b p q = p
-  kept-cond false a b p q = q
-
   edgeByte-kept : (x : ℕ) → blank (edgeByte v y x) ≡ false
   unfolding edgeByte borderByte
   edgeByte-kept x =
-      kept-cond (cornerAt v y x) _ _ refl
-      (kept-cond (horizontalAt v y x) _ _ (kept-cond (colonAt v y x) _ _ refl (kept-cond (any (eqb y) (v .rules)) _ _ refl refl)) refl)
+      cond-either seen (cornerAt v y x) refl
+      (cond-either seen (horizontalAt v y x) (cond-either seen (colonAt v y x) refl (cond-either seen (any (eqb y) (v .rules)) refl refl)) refl) where
+        seen : ℕ → Type 0
+        seen b = blank b ≡ false
 
   pub flat-border : (x : ℕ) → border v y x ≡ true → flat o v y 0 (x + 1) ≡ flat o v y 0 x ++ edgeByte v y x ∷ []
   flat-border x e =

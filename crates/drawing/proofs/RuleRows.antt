@@ -11,7 +11,7 @@ use lib.Dec.{eqb}
 use borrow.Author.Tests.{eqb-true, eqb-false, ne-eqb}
 use lib.ListN.{length}
 use Rattle.seq.specs.Lists.{range, upTo, any}
-use Rattle.seq.proofs.Tests.{true-not-false, bool-cases, refused, or-cases}
+use Rattle.seq.proofs.Tests.{true-not-false, bool-cases, cond-either, refused, or-cases}
 use Rattle.seq.proofs.Walks.{or-false}
 use Rattle.text.specs.Characters.{space, plus, colon}
 use Rattle.text.specs.Rule.{isRule}
@@ -92,9 +92,8 @@ module _ {v : Canvas} (L : Lined v) where
       let across : horizontalAt v y x ≡ true = sym (or-false (horizontalAt v y x)) ∙ rw (h, clear-vertical y x c) at (clear-border y u c x w) in
       rw (h, across)
 
-  not-cond : (t : Bool) (a b z : ℕ) → (a ≡ z → ⊥) → (b ≡ z → ⊥) → cond t a b ≡ z → ⊥
-  not-cond true a b z p q e = p e
-  not-cond false a b z p q e = q e
+  abbrev Not : ℕ → ℕ → Type 0
+  Not b n = n ≡ b → ⊥
 
   pub edgeByte-corner : (y x : ℕ) → edgeByte v y x ≡ plus → cornerAt v y x ≡ true
   unfolding edgeByte borderByte
@@ -102,15 +101,15 @@ module _ {v : Canvas} (L : Lined v) where
       ⊎-elim (λ h. h)
       (λ h.
       absurd
-      (not-cond (horizontalAt v y x) _ _ plus
-      (not-cond (colonAt v y x) _ _ plus (λ q. omega arith) (not-cond (any (eqb y) (v .rules)) _ _ plus (λ q. omega arith) (λ q. omega arith))) (λ q. omega arith) (rw h at e)))
+      (cond-either (Not plus) (horizontalAt v y x)
+      (cond-either (Not plus) (colonAt v y x) (λ q. omega arith) (cond-either (Not plus) (any (eqb y) (v .rules)) (λ q. omega arith) (λ q. omega arith))) (λ q. omega arith) (rw h at e)))
       (bool-cases (cornerAt v y x))
 
   pub fillOf-other : (y : ℕ) → (fillOf y ≡ plus → ⊥) × (fillOf y ≡ colon → ⊥)
   unfolding fillOf
   fillOf-other y = (
-    not-cond (any (eqb y) (v .rules)) equals dash plus (λ q. omega arith) (λ q. omega arith),
-    not-cond (any (eqb y) (v .rules)) equals dash colon (λ q. omega arith) (λ q. omega arith),
+    cond-either (Not plus) (any (eqb y) (v .rules)) (λ q. omega arith) (λ q. omega arith),
+    cond-either (Not colon) (any (eqb y) (v .rules)) (λ q. omega arith) (λ q. omega arith),
   )
 
   module _ (y : ℕ) (u : y < canvasHeight v) (c : Clear y) where

@@ -1,16 +1,19 @@
 -- The lines of a cell as they are drawn: trimmed, without empty last ones. `drawn-line-at` gives line i, `drawn-trimmed`,
--- `drawn-dropped` and `drawn-again` say that they are drawn as they are. Cut again: `inner-cut` for one line, `dropped-rows` for all.
-use Prim.Native.Nat.{_+_, _<_, _≤_, suc, zero, ℕ}
-use mathlib.Core.Path.{_∙_, _≡_, ap, refl}
-use mathlib.Core.List.{List, [], _++_, _∷_, map}
+-- `drawn-dropped` and `drawn-again` say that they are drawn as they are. Cut again: `inner-cut` for one line, `first-shorter` for a part
+-- of one, `dropped-rows` for all.
+use Prim.Native.Nat.{ℕ, zero, suc, _+_, _≤_, _<_}
+use mathlib.Core.Path.{_≡_, refl, ap, _∙_}
+use mathlib.Core.List.{List, [], _∷_, _++_, map}
 use native.Mathlib.Omega.{arith}
-use lib.ListN.{getD, length, replicate}
+use native.Mathlib.Nat.{le-trans}
+use lib.ListN.{length, getD, take, replicate, length-take}
 use Rattle.seq.specs.Lists.{range}
 use Rattle.text.specs.Characters.{space}
-use Rattle.text.specs.Trim.{trimEnd}
-use Rattle.text.proofs.TrimLaws.{trim-again, trim-spaces}
+use Rattle.text.specs.Trim.{beforeTrimmed, trimEnd}
+use Rattle.text.proofs.TrimLaws.{trim-shorter, trim-again, trim-spaces}
+use Rattle.grid.specs.Values.{TableCell}
 use Rattle.grid.specs.Cut.{afterFirst, beforeDropped, dropEmptyLast}
-use Rattle.grid.specs.Same.{drawnLines}
+use Rattle.grid.specs.Same.{drawnLines, normalCell}
 
 -- ---- lines without empty last ones
 pub dropped-at : (ls : List (List ℕ)) (i : ℕ) → getD (dropEmptyLast ls) i [] ≡ getD ls i []
@@ -44,6 +47,15 @@ inner-cut [] k n byte column h =
 inner-cut (b ∷ bs) k n byte column h =
     let e : trimEnd ((b ∷ bs) ++ replicate k space) ≡ b ∷ bs = trim-spaces (b ∷ bs) k ∙ h in
     rw e
+
+-- the cut of a text that begins with a space, n bytes of it, is shorter than n
+pub first-shorter : (line byte column n : ℕ) (r : List ℕ) (m : ℕ) → n ≤ m → 0 < m → length (afterFirst (trimEnd (take n (space ∷ r))) line byte column .text) < m
+unfolding trimEnd afterFirst
+first-shorter line byte column zero r m u w = w
+first-shorter line byte column (suc n) r m u w = go (trimEnd (take n r)) (le-trans (trim-shorter (take n r)) (omega (arith, length-take n r))) where
+  go : (q : List ℕ) → length q ≤ n → length (afterFirst (beforeTrimmed space q) line byte column .text) < m
+  go [] h = w
+  go (b ∷ q) h = omega arith
 
 -- ---- lines cut one below the other, with empty ones behind
 dropped-none : (n a : ℕ) (h : ℕ → List ℕ) → ((i : ℕ) → i < n → h (a + i) ≡ []) → dropEmptyLast (map h (range a n)) ≡ []
@@ -95,3 +107,7 @@ trim-dropped (x ∷ ls) = go (trimEnd x) (dropEmptyLast (map trimEnd ls)) (trim-
 pub drawn-again : (ls : List (List ℕ)) → drawnLines (drawnLines ls) ≡ drawnLines ls
 unfolding drawnLines
 drawn-again ls = ap dropEmptyLast (trim-dropped ls) ∙ dropped-again (map trimEnd ls)
+
+pub normal-again : (c : TableCell) → normalCell (normalCell c) ≡ normalCell c
+unfolding normalCell
+normal-again c = let l = drawn-again (c .lines) in λ i. record { row = c .row; column = c .column; colspan = c .colspan; rowspan = c .rowspan; lines = l i }

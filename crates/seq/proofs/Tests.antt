@@ -1,7 +1,7 @@
 -- Laws of tests: what a passed `&&` or `||` tells, and a test as the number 0 or 1.
 use Prim.Native.Nat.{ℕ, _≤_, _<_}
 use mathlib.Core.Path.{_≡_, refl, sym}
-use mathlib.Core.Bool.{Bool, true, false, _&&_, _||_}
+use mathlib.Core.Bool.{Bool, true, false, _&&_, _||_, cond}
 use mathlib.Core.Logic.{_⊎_, inl, inr, ⊎-elim}
 use native.Mathlib.Omega.{arith}
 use lib.Dec.{eqb, leb, ltb}
@@ -20,6 +20,11 @@ pub bool-same : (s t : Bool) → (s ≡ true → t ≡ true) → (t ≡ true →
 bool-same true t there back = sym (there refl)
 bool-same false true there back = back refl
 bool-same false false there back = refl
+
+-- what holds of both holds of the one that a test picks
+pub cond-either : {A : Type 0} (P : A → Type 0) (t : Bool) {a b : A} → P a → P b → P (cond t a b)
+cond-either P true p q = p
+cond-either P false p q = q
 
 pub and-false : (t : Bool) → t && false ≡ false
 and-false true = refl

@@ -15,6 +15,7 @@ pub mod FlatTableLaws
 pub mod ByteLaws
 pub mod SizeLaws
 pub mod RebuiltLaws
+pub mod CallTheorems
 pub mod SquareSums
 pub mod CutLaws
 pub mod CellLaws

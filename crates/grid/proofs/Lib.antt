@@ -1,3 +1,4 @@
+pub mod AnswerExamples
 pub mod Examples
 pub mod RectangleLaws
 pub mod SkylineLaws

@@ -1,5 +1,5 @@
 -- Computed answers of the calls that read a drawing, and what they leave in the arrays lent to them. Expected values are worked out
--- by hand from document 01. Nearly every number differs from its neighbours, so that an exchange of two is seen.
+-- by hand from document 01, on sheets where an exchange of two numbers is seen.
 use Prim.Native.Nat.{ℕ}
 use mathlib.Core.Path.{_≡_, refl}
 use mathlib.Core.Bool.{true, false}
@@ -34,8 +34,15 @@ sheet lengths columns text = record { lines = length lengths; bytes = length tex
 abbrev parted : FlatDrawing
 parted =
     sheet (10 ∷ 12 ∷ 10 ∷ 11 ∷ 10 ∷ 10 ∷ 10 ∷ 11 ∷ 10 ∷ []) (5 ∷ 5 ∷ 5 ∷ 5 ∷ 5 ∷ 6 ∷ 5 ∷ 5 ∷ 5 ∷ [])
-    (ascii "+---+----+" ++ ascii "| a      |  " ++ ascii "+:==+===:+" ++ ascii "| " ++ 0xe3 ∷ 0x81 ∷ 0x82 ∷ ascii "|    |" ++ ascii "|   +----+"
-    ++ ascii "| x |\td  |" ++ ascii "+===+====+" ++ ascii "|\te|  f" ++ 0xcc ∷ 0x81 ∷ ascii " |" ++ ascii "+===+====+")
+    (ascii "+---+----+"
+    ++ ascii "| a      |  "
+    ++ ascii "+:==+===:+"
+    ++ ascii "| " ++ 0xe3 ∷ 0x81 ∷ 0x82 ∷ ascii "|    |"
+    ++ ascii "|   +----+"
+    ++ ascii "| x |\td  |"
+    ++ ascii "+===+====+"
+    ++ ascii "|\te|  f" ++ 0xcc ∷ 0x81 ∷ ascii " |"
+    ++ ascii "+===+====+")
 
 abbrev lentLayout : LayoutArrays
 lentLayout = record { columns = replicate 6 9; rows = replicate 15 9; cells = replicate 35 9; ranges = replicate 18 9 }
@@ -173,13 +180,18 @@ pub cell-refused-writes-nothing : cellAfterwards space 128 small 0 (replicate 3 
 unfolding reading
 cell-refused-writes-nothing = refl
 
-pub layout-offsets-too-short : layoutAnswer (record { glyphs = 16384; offsets = 16383; down = 16384; right = 16384; rects = 4096 }) small lentLayout ≡ refuse 13 0
+pub layout-offsets-too-short : layoutAnswer (record { glyphs = 16384; offsets = 16383; down = 16384; right = 16384; rects = 4096 }) small lentLayout
+    ≡ refuse 13 0
 unfolding reading
 layout-offsets-too-short = refl
 
 pub table-starts-too-short : tableAnswer space (record { starts = 127; counts = 1024 }) small lentTable ≡ refuse 13 0
 unfolding reading
 table-starts-too-short = refl
+
+pub table-counts-too-short : tableAnswer space (record { starts = 128; counts = 1023 }) small lentTable ≡ refuse 13 0
+unfolding reading
+table-counts-too-short = refl
 
 pub cell-starts-too-short : cellAnswer space 127 small 0 (replicate 4 9) ≡ refuse 13 0
 unfolding reading

@@ -3,7 +3,7 @@
 -- `cell-six`, `layout-seven`, `table-seven` and `cell-seven`.
 use Prim.Native.Nat.{ℕ, _≤_, _<_}
 use mathlib.Core.Path.{_≡_, sym, ap, _∙_}
-use mathlib.Core.Bool.{true, _||_}
+use mathlib.Core.Bool.{Bool, true, _||_}
 use mathlib.Core.List.{List, List·Permᴰ}
 use native.Mathlib.Omega.{arith}
 use lib.Dec.{leb}
@@ -59,9 +59,10 @@ module _ (w : LayoutSpace) (d : FlatDrawing) (out : LayoutArrays) where
   layout-refused : (m p : ℕ) → m < 12 → layoutAnswer w d out ≡ refuse m p → readRects (linesOf d) ≡ refuse m p
   unfolding layoutAnswer layoutAccepts
   layout-refused m p few e =
-      let lines = linesOf d in
-      let accepts = andThen-accepting (layoutAccepts w d out) (λ l. layoutSizes lines l) m p e in
-      readLayout-refused lines m p (handedOut-refused (drawingContradicts d || spaceShort w) (readLayout lines) (λ l. layoutShort out (layoutArrays l)) m p few accepts)
+      let accepts = andThen-accepting (layoutAccepts w d out) (λ l. layoutSizes (linesOf d) l) m p e in
+      let contradicts = drawingContradicts d || spaceShort w in
+      let short : Layout → Bool = λ l. layoutShort out (layoutArrays l) in
+      readLayout-refused (linesOf d) m p (handedOut-refused contradicts (readLayout (linesOf d)) short m p few accepts)
 
   -- The layout call answers 6 only where the drawing has no cover, of any number of rectangles in any order,
   pub layout-six : (p : ℕ) → layoutAnswer w d out ≡ refuse 6 p → (cs : List Rect) → Cover (gridOf (linesOf d)) cs → ⊥
@@ -96,18 +97,21 @@ module _ (w : LayoutSpace) (s : TableSpace) (d : FlatDrawing) (out : TableArrays
       let (t, accepts, made) = passed-then (tableAccepts w s d out) (λ t. accept (tableSizes t)) sizes e in
       let (rs, traced, table) = table-read (linesOf d) t (tableAccepts-read t accepts) in
       let same : tableSizes t ≡ sizes = cc in
+      let over-out : Table → TableArrays = λ t. tableOver (tableArrays t) out in
       record {
         rectangles = rs;
         cover = readRects-covers (linesOf d) rs traced;
         answered = sym same ∙ ap tableSizes table;
-        written = afterwards-accepted (tableAccepts w s d out) (λ t. tableOver (tableArrays t) out) out t accepts ∙ ap (λ (t : Table). tableOver (tableArrays t) out) table;
+        written = afterwards-accepted (tableAccepts w s d out) over-out out t accepts ∙ ap over-out table;
       }
 
   table-refused : (m p : ℕ) → m < 12 → tableAnswer w s d out ≡ refuse m p → readRects (linesOf d) ≡ refuse m p
   unfolding tableAnswer tableAccepts
   table-refused m p few e =
       let accepts = andThen-accepting (tableAccepts w s d out) (λ t. tableSizes t) m p e in
-      readTable-refused (linesOf d) m p (handedOut-refused (readContradicts w (tableSpaceShort s) d) (readTable (linesOf d)) (λ t. tableShort out (tableArrays t)) m p few accepts)
+      let contradicts = readContradicts w (tableSpaceShort s) d in
+      let short : Table → Bool = λ t. tableShort out (tableArrays t) in
+      readTable-refused (linesOf d) m p (handedOut-refused contradicts (readTable (linesOf d)) short m p few accepts)
 
   -- The table call answers 6 only where the drawing has no cover,
   pub table-six : (p : ℕ) → tableAnswer w s d out ≡ refuse 6 p → (cs : List Rect) → Cover (gridOf (linesOf d)) cs → ⊥
@@ -153,12 +157,13 @@ module _ (w : LayoutSpace) (starts : ℕ) (d : FlatDrawing) (k : ℕ) (out : Lis
       let (rs, traced, layout) = layout-read (linesOf d) l read in
       let count : length cuts ≡ lines = cc in
       let same : cuts ≡ cutsOf (layoutBy d rs) = sym cutting ∙ ap cutsOf layout in
+      let over-out : List CutNumbers → List ℕ = λ cuts. over (cutArray cuts) out in
       record {
         rectangles = rs;
         cover = readRects-covers (linesOf d) rs traced;
         inside = omega (arith, ap (λ (l : Layout). length (l .cells)) layout, length-map rs (cellRead (gridOf (linesOf d)) rs));
         answered = sym count ∙ ap (λ (l : List CutNumbers). length l) same;
-        written = afterwards-accepted (cellAccepts w starts d k out) (λ cuts. over (cutArray cuts) out) out cuts accepts ∙ ap (λ (l : List CutNumbers). over (cutArray l) out) same;
+        written = afterwards-accepted (cellAccepts w starts d k out) over-out out cuts accepts ∙ ap over-out same;
       }
 
   cell-refused : (m p : ℕ) → m < 12 → cellAnswer w starts d k out ≡ refuse m p → readRects (linesOf d) ≡ refuse m p

@@ -34,11 +34,13 @@ module _ {A : Type 0} where
   passed-at (some place) number next a e = absurd (let z : _≡_ {A = ℕ} 0 1 = cc in omega arith)
 
   -- a refusal with another number than the check's own comes from the checks after it
-  pub refuseIf-later : (t : Bool) (number : ℕ) (next : Answer A) (m p : ℕ) → (number ≡ m → ⊥) → refuseIf t number next ≡ refuse m p → next ≡ refuse m p
+  pub refuseIf-later : (t : Bool) (number : ℕ) (next : Answer A) (m p : ℕ) → (number ≡ m → ⊥)
+      → refuseIf t number next ≡ refuse m p → next ≡ refuse m p
   refuseIf-later true number next m p other e = absurd (other (cc e))
   refuseIf-later false number next m p other e = e
 
-  pub refuseAt-later : (o : Option ℕ) (number : ℕ) (next : Answer A) (m p : ℕ) → (number ≡ m → ⊥) → refuseAt o number next ≡ refuse m p → next ≡ refuse m p
+  pub refuseAt-later : (o : Option ℕ) (number : ℕ) (next : Answer A) (m p : ℕ) → (number ≡ m → ⊥)
+      → refuseAt o number next ≡ refuse m p → next ≡ refuse m p
   refuseAt-later none number next m p other e = e
   refuseAt-later (some place) number next m p other e = absurd (other (cc e))
 
@@ -47,7 +49,8 @@ module _ {A : Type 0} where
 
 module _ {A B : Type 0} where
   -- a refusal that what follows never gives was there before
-  pub andThen-refused : (a : Answer A) (next : A → Answer B) (m p : ℕ) → ((x : A) → next x ≡ refuse m p → ⊥) → andThen a next ≡ refuse m p → a ≡ refuse m p
+  pub andThen-refused : (a : Answer A) (next : A → Answer B) (m p : ℕ) → ((x : A) → next x ≡ refuse m p → ⊥)
+      → andThen a next ≡ refuse m p → a ≡ refuse m p
   andThen-refused (accept x) next m p never e = absurd (never x e)
   andThen-refused (refuse number place) next m p never e =
       let same : number ≡ m = cc e in

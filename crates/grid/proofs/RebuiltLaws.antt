@@ -1,4 +1,4 @@
--- The rectangles rebuilt from the arrays of an accepted layout call are the traced ones.
+-- The rectangles rebuilt from the arrays of an accepted layout call are the traced ones: others cite `layout-rebuilt`.
 use Prim.Native.Nat.{ℕ, zero, suc, _+_, _-_, _*_, _≤_, _<_}
 use mathlib.Core.Path.{_≡_, refl, sym, ap, ap₂, _∙_}
 use mathlib.Core.Bool.{_||_}

@@ -1,3 +1,4 @@
+pub mod AnswerExamples
 pub mod Examples
 pub mod RectangleLaws
 pub mod SkylineLaws
@@ -15,6 +16,7 @@ pub mod FlatTableLaws
 pub mod ByteLaws
 pub mod SizeLaws
 pub mod RebuiltLaws
+pub mod CallTheorems
 pub mod SquareSums
 pub mod CutLaws
 pub mod CellLaws

@@ -1,3 +1,5 @@
+pub mod ExamplesTables
 pub mod Examples
+pub mod ExamplesRefusals
 pub mod ReadRules
 pub mod ReadLimits

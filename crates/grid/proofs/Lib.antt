@@ -1,4 +1,6 @@
 pub mod Examples
+pub mod ExamplesCutting
+pub mod ExamplesCalls
 pub mod RectangleLaws
 pub mod ArrayLaws
 pub mod SkylineLaws

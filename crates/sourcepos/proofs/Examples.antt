@@ -12,17 +12,17 @@ use Rattle.sourcepos.specs.PositionsCall.{FlatPlaced, PositionArrays, po
 abbrev space : LayoutSpace
 space = record { glyphs = 16384; offsets = 16384; down = 16384; right = 16384; rects = 4096 }
 
--- A row without inner lines above one of two cells
+-- A row without inner lines above one of three cells
 
 abbrev given : List ℕ → FlatPlaced
 given tableBytes =
     record {
       drawing = record {
         lines = 4;
-        bytes = 23;
-        lengths = 5 ∷ 5 ∷ 8 ∷ 5 ∷ [];
+        bytes = 31;
+        lengths = 7 ∷ 7 ∷ 10 ∷ 7 ∷ [];
         columns = 2 ∷ 2 ∷ 2 ∷ 2 ∷ [];
-        text = ascii "+---++-+-+|a|b|   +-+-+";
+        text = ascii "+-----++-+-+-+|a|b|c|   +-+-+-+";
       };
       numbers = 4 ∷ 5 ∷ 6 ∷ 7 ∷ [];
       tableBytes = tableBytes;
@@ -34,32 +34,32 @@ bytes = 20 ∷ 30 ∷ 40 ∷ 50 ∷ []
 abbrev lent : List ℕ → PositionArrays
 lent cells = record { rows = replicate 9 9; cells = cells }
 
-table-position : positionsAnswer space 128 (given bytes) (lent (replicate 12 9))
-    ≡ accept (record { table = record { startLine = 4; startColumn = 21; endLine = 7; endColumn = 55 }; rows = 2; cells = 3 })
+table-position : positionsAnswer space 128 (given bytes) (lent (replicate 16 8))
+    ≡ accept (record { table = record { startLine = 4; startColumn = 21; endLine = 7; endColumn = 57 }; rows = 2; cells = 4 })
 unfolding positions
 table-position = refl
 
-rows-and-cells : positionsAfterwards space 128 (given bytes) (lent (replicate 12 9))
+rows-and-cells : positionsAfterwards space 128 (given bytes) (lent (replicate 17 8))
     ≡ record {
-      rows = 4 ∷ 21 ∷ 4 ∷ 20 ∷ 6 ∷ 41 ∷ 6 ∷ 45 ∷ 9 ∷ [];
-      cells = 4 ∷ 21 ∷ 4 ∷ 20 ∷ 6 ∷ 42 ∷ 6 ∷ 42 ∷ 6 ∷ 44 ∷ 6 ∷ 44 ∷ [];
+      rows = 4 ∷ 21 ∷ 4 ∷ 20 ∷ 6 ∷ 41 ∷ 6 ∷ 47 ∷ 9 ∷ [];
+      cells = 4 ∷ 21 ∷ 4 ∷ 20 ∷ 6 ∷ 42 ∷ 6 ∷ 42 ∷ 6 ∷ 44 ∷ 6 ∷ 44 ∷ 6 ∷ 46 ∷ 6 ∷ 46 ∷ 8 ∷ [];
     }
 unfolding positions
 rows-and-cells = refl
 
-last-cell : cellPositionAnswer space 128 (given bytes) 2 ≡ accept (record { startLine = 6; startColumn = 44; endLine = 6; endColumn = 44 })
+last-cell : cellPositionAnswer space 128 (given bytes) 3 ≡ accept (record { startLine = 6; startColumn = 46; endLine = 6; endColumn = 46 })
 unfolding positions
 last-cell = refl
 
-cell-past-the-end : cellPositionAnswer space 128 (given bytes) 3 ≡ refuse 13 0
+cell-past-the-end : cellPositionAnswer space 128 (given bytes) 4 ≡ refuse 13 0
 unfolding positions
 cell-past-the-end = refl
 
-cells-too-short : positionsAnswer space 128 (given bytes) (lent (replicate 11 9)) ≡ refuse 12 0
+cells-too-short : positionsAnswer space 128 (given bytes) (lent (replicate 15 8)) ≡ refuse 12 0
 unfolding positions
 cells-too-short = refl
 
-refused-positions-write-nothing : positionsAfterwards space 128 (given bytes) (lent (replicate 11 9)) ≡ lent (replicate 11 9)
+refused-positions-write-nothing : positionsAfterwards space 128 (given bytes) (lent (replicate 15 8)) ≡ lent (replicate 15 8)
 unfolding positions
 refused-positions-write-nothing = refl
 

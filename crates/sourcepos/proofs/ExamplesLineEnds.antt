@@ -32,11 +32,12 @@ those-that-reach-first : findEol (at 1 1 10 ∷ at 1 2 5 ∷ []) 1 7 ≡ some 10
 unfolding positions
 those-that-reach-first = refl
 
-last-by-start : findEol (at 1 2 5 ∷ at 1 1 10 ∷ []) 1 4 ≡ some 5
+-- in whichever order they came
+last-by-start : map (λ ends. findEol ends 1 4) ((at 1 2 5 ∷ at 1 1 10 ∷ []) ∷ (at 1 1 10 ∷ at 1 2 5 ∷ []) ∷ []) ≡ some 5 ∷ some 5 ∷ []
 unfolding positions
 last-by-start = refl
 
-then-by-eol : findEol (at 1 2 9 ∷ at 1 2 5 ∷ []) 1 4 ≡ some 9
+then-by-eol : map (λ ends. findEol ends 1 4) ((at 1 2 9 ∷ at 1 2 5 ∷ []) ∷ (at 1 2 5 ∷ at 1 2 9 ∷ []) ∷ []) ≡ some 9 ∷ some 9 ∷ []
 unfolding positions
 then-by-eol = refl
 

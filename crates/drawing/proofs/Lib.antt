@@ -3,3 +3,4 @@ pub mod Examples
 pub mod ExamplesRefusals
 pub mod ReadRules
 pub mod ReadLimits
+pub mod SameLaws

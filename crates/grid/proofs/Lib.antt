@@ -26,3 +26,4 @@ pub mod CutLaws
 pub mod CellLaws
 pub mod CellTexts
 pub mod TablePartsLaws
+pub mod SameLaws

@@ -3,4 +3,5 @@ pub mod Examples
 pub mod ExamplesRefusals
 pub mod ReadRules
 pub mod ReadLimits
+pub mod CellPlaces
 pub mod SameLaws

@@ -1,6 +1,5 @@
 -- What sameness of two tables is, part by part. Cite `same-parts`: with no hypothesis, two tables are the same exactly when their
 -- looks and their cells' places agree. Under the grid rules the places follow from the rest: `same-exactly` of the crate drawing.
-use Prim.Native.Nat.{ℕ}
 use mathlib.Core.Path.{_≡_, refl, sym, ap, _∙_}
 use mathlib.Core.Logic.{_↔_}
 use mathlib.Core.List.{List, [], _∷_, map, map-map}
@@ -27,11 +26,14 @@ pub record SameLook (t u : Table) : Type 0 where
   pub rowspans : eachCell (λ c. c .rowspan) t ≡ eachCell (λ c. c .rowspan) u
   pub lines : eachCell (λ c. drawnLines (c .lines)) t ≡ eachCell (λ c. drawnLines (c .lines)) u
 
--- that, and where each cell stands
+-- where each cell stands
+pub record SamePlaces (t u : Table) : Type 0 where
+  pub rows : eachCell (λ c. c .row) t ≡ eachCell (λ c. c .row) u
+  pub columns : eachCell (λ c. c .column) t ≡ eachCell (λ c. c .column) u
+
 pub record SameParts (t u : Table) : Type 0 where
   pub look : SameLook t u
-  pub cellRows : eachCell (λ c. c .row) t ≡ eachCell (λ c. c .row) u
-  pub cellColumns : eachCell (λ c. c .column) t ≡ eachCell (λ c. c .column) u
+  pub places : SamePlaces t u
 
 -- ---- from sameness to its parts
 
@@ -60,8 +62,7 @@ same-gives t u e =
         rowspans = same-each (λ c. c .rowspan) t u e;
         lines = same-each (λ c. c .lines) t u e;
       };
-      cellRows = same-each (λ c. c .row) t u e;
-      cellColumns = same-each (λ c. c .column) t u e;
+      places = record { rows = same-each (λ c. c .row) t u e; columns = same-each (λ c. c .column) t u e };
     }
 
 -- ---- and back
@@ -95,7 +96,7 @@ same-from t u p = λ i. record { columns = columns i; sections = p .look .sectio
   columns = sym (map-map plain (λ c. c .alignment) (t .columns)) ∙ ap (map plain) (p .look .alignments) ∙ map-map plain (λ c. c .alignment) (u .columns)
 
   cells : normal t .cells ≡ normal u .cells
-  cells = normal-cells (t .cells) (u .cells) (p .cellRows) (p .cellColumns) (p .look .colspans) (p .look .rowspans) (p .look .lines)
+  cells = normal-cells (t .cells) (u .cells) (p .places .rows) (p .places .columns) (p .look .colspans) (p .look .rowspans) (p .look .lines)
 
 -- Two tables are the same exactly when their looks and the places of their cells agree.
 pub same-parts : (t u : Table) → Same t u ↔ SameParts t u

@@ -17,8 +17,8 @@ use Rattle.grid.specs.Values.{TableCell, Table}
 use Rattle.grid.proofs.SameLaws.{eachCell, SamePlaces}
 use Rattle.drawing.specs.GridRules.{comesBefore, inOrder, staysInside, allInside, holdsSquare, coverOnce, allStart, sectionsRun, noneCrosses, keepsRules}
 
-before-strict : Strict comesBefore
-before-strict =
+comesBefore-strict : Strict comesBefore
+comesBefore-strict =
     record {
       irreflexive = λ a.
           refused (comesBefore a a) (λ e.
@@ -129,7 +129,7 @@ module _ {t u : Table} (rows : length (t .sections) ≡ length (u .sections)) (c
       (lex-cases (c .row) (found .0 .row) (c .column) (found .0 .column) (later (found .1))) where
         later : {x : TableCell} → List·Memᴰ x (d ∷ ds) → comesBefore c x ≡ true
         later (List·Memᴰ·head q) = rw q first
-        later {x} (List·Memᴰ·tail m) = before-strict .transitive c d x first (sorted-head comesBefore before-strict d ds (other .ordered) m)
+        later {x} (List·Memᴰ·tail m) = comesBefore-strict .transitive c d x first (sorted-head comesBefore comesBefore-strict d ds (other .ordered) m)
 
 module _ {t u : Table} (rows : length (t .sections) ≡ length (u .sections)) (columns : length (t .columns) ≡ length (u .columns)) where
   module _ {before : ℕ → ℕ → ℕ} {c d : TableCell} {cs ds : List TableCell} (mine : Rest t before (c ∷ cs)) (other : Rest u before (d ∷ ds)) where

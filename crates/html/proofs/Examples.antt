@@ -148,6 +148,12 @@ codes-past-their-cases : fullAnswer 16384 (3 ∷ 1 ∷ 4 ∷ 0 ∷ 1 ∷ 0 ∷ 2
 unfolding rendering
 codes-past-their-cases = refl
 
+-- more columns than rows and cells
+last-code-past-its-cases : pageAnswer 16384 false (record { columns = 2; rows = 1; cells = 1; bytes = 0 })
+    (record { columns = 0 ∷ 1 ∷ 4 ∷ 1 ∷ []; sections = 1 ∷ []; cells = 0 ∷ 0 ∷ 2 ∷ 1 ∷ 0 ∷ []; inner = [] }) [] ≡ refuse 13 0
+unfolding rendering
+last-code-past-its-cases = refl
+
 space-one-short : fullAnswer 16383 columns sections ≡ refuse 13 0
 unfolding rendering
 space-one-short = refl

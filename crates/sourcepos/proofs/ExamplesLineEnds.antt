@@ -152,6 +152,11 @@ sum-past-its-limit : remapAnswer 1 (1 ∷ []) (65535 ∷ []) (at 1 1 1) ≡ refu
 unfolding positions
 sum-past-its-limit = refl
 
+-- the line of an end may not pass the limit either, however many fragments there are
+line-past-its-limit : map (λ line. remapAnswer 65536 (replicate 65536 7) (replicate 65536 5) (at line 1 2)) (65535 ∷ 65536 ∷ []) ≡ accept (at 7 6 7) ∷ refuse 2 0 ∷ []
+unfolding positions
+line-past-its-limit = refl
+
 -- no line, a line past the fragments, no start, backwards
 bad-ends-of-remapping : map (remapAnswer 2 (7 ∷ 8 ∷ []) (10 ∷ 20 ∷ [])) (at 0 1 1 ∷ at 3 3 4 ∷ at 2 0 1 ∷ at 2 2 1 ∷ [])
     ≡ refuse 13 0 ∷ refuse 13 0 ∷ refuse 13 0 ∷ refuse 13 0 ∷ []

@@ -1,7 +1,7 @@
 -- Computed examples of drawing and of the grid rules, at their edges. Expected values were worked out by hand from document 01.
 use mathlib.Core.Path.{_≡_, refl}
 use mathlib.Core.Bool.{true, false}
-use mathlib.Core.List.{List, [], _∷_, _++_, map}
+use mathlib.Core.List.{List, [], _∷_, _++_, map, flatMap}
 use Prim.Native.Nat.{ℕ}
 use lib.ListN.{replicate}
 use Rattle.seq.specs.Ascii.{ascii}
@@ -10,6 +10,7 @@ use Rattle.grid.specs.Values.{TableCell, Table}
 use Rattle.grid.specs.Read.{readTable}
 use Rattle.grid.specs.Same.{normal}
 use Rattle.grid.specs.declared.TableAlignment.the-variants.{None, Left, Right, Center}
+use Rattle.grid.specs.declared.GridTableSection.{GridTableSection}
 use Rattle.grid.specs.declared.GridTableSection.the-variants.{Head, Body, Foot}
 use Rattle.drawing.specs.Computing.{redrawing}
 use Rattle.drawing.specs.GridRules.{keepsRules, inOrder, allInside, coverOnce, allStart, sectionsRun, noneCrosses}
@@ -37,6 +38,17 @@ least-width-of-none = refl
 lack-goes-to-the-last : widths (under None None (text1 (ascii "abcdef"))) ≡ 1 ∷ 5 ∷ []
 unfolding redrawing
 lack-goes-to-the-last = refl
+
+-- of the cell's own columns, 1 and 2, and the border between them
+lack-in-the-middle : widths
+    (record {
+      columns = replicate 4 (col None 0);
+      sections = Body ∷ Body ∷ [];
+      cells = cell 0 0 1 1 (text1 (ascii "xy")) ∷ cell 0 1 2 1 (text1 (ascii "abcdef")) ∷ cell 0 3 1 1 (text1 (ascii "ijklmnop"))
+          ∷ cell 1 0 1 1 [] ∷ cell 1 1 1 1 [] ∷ cell 1 2 1 1 [] ∷ cell 1 3 1 1 [] ∷ [];
+    }) ≡ 3 ∷ 1 ∷ 5 ∷ 9 ∷ []
+unfolding redrawing
+lack-in-the-middle = refl
 
 -- cells of one column are taken before those of several, wherever they stand: the top cell lacks nothing by then
 single-widths-first : widths
@@ -111,6 +123,11 @@ drawn-128-wide : shown (redraw 0 (declared 126 None Body []))
 unfolding redrawing
 drawn-128-wide = refl
 
+-- 126 lines in one cell
+drawn-128-lines : shown (redraw 0 (alone None Body (replicate 126 (ascii "a")))) ≡ ascii "+--+\n" ++ flatMap (λ line. line) (replicate 126 (ascii "| a|\n")) ++ ascii "+--+\n"
+unfolding redrawing
+drawn-128-lines = refl
+
 drawn-512-bytes : shown (redraw 0 (alone None Body (text1 (ascii "x" ++ marks)))) ≡ ascii "+--+\n| x" ++ marks ++ ascii "|\n+--+\n"
 unfolding redrawing
 drawn-512-bytes = refl
@@ -130,8 +147,12 @@ tab-reads-back = refl
 
 -- Grid rules
 
+-- two columns and two rows
+abbrev rows : GridTableSection → GridTableSection → List TableCell → Table
+rows a b cells = record { columns = col None 1 ∷ col None 1 ∷ []; sections = a ∷ b ∷ []; cells = cells }
+
 abbrev two : List TableCell → Table
-two cells = record { columns = col None 1 ∷ col None 1 ∷ []; sections = Head ∷ Body ∷ []; cells = cells }
+two cells = rows Head Body cells
 
 out-of-order : inOrder (two (cell 0 1 1 2 [] ∷ cell 0 0 1 2 [] ∷ [])) ≡ false
 unfolding redrawing
@@ -156,6 +177,22 @@ sections-turn-back = refl
 crosses-a-section : noneCrosses (two (cell 0 0 1 2 [] ∷ cell 0 1 1 1 [] ∷ cell 1 1 1 1 [] ∷ [])) ≡ false
 unfolding redrawing
 crosses-a-section = refl
+
+-- each table breaks one rule alone: the order; a cell past the last column; past the last row; a colspan of 0; a rowspan of 0; a square
+-- held twice; a square of no cell; a column without a start; a row without a start; Head after Body; a cell over two sections
+each-rule-alone : map (λ t. keepsRules t)
+    (rows Body Body (cell 0 1 1 1 [] ∷ cell 0 0 1 1 [] ∷ cell 1 0 1 1 [] ∷ cell 1 1 1 1 [] ∷ [])
+    ∷ rows Body Body (cell 0 0 1 1 [] ∷ cell 0 1 1 1 [] ∷ cell 1 0 1 1 [] ∷ cell 1 1 2 1 [] ∷ [])
+    ∷ rows Body Body (cell 0 0 1 1 [] ∷ cell 0 1 1 1 [] ∷ cell 1 0 1 1 [] ∷ cell 1 1 1 2 [] ∷ [])
+    ∷ rows Body Body (cell 0 0 2 1 [] ∷ cell 0 1 0 1 [] ∷ cell 1 0 1 1 [] ∷ cell 1 1 1 1 [] ∷ [])
+    ∷ rows Body Body (cell 0 0 2 1 [] ∷ cell 0 1 1 0 [] ∷ cell 1 0 1 1 [] ∷ cell 1 1 1 1 [] ∷ [])
+    ∷ rows Body Body (cell 0 0 1 1 [] ∷ cell 0 1 1 1 [] ∷ cell 1 0 2 1 [] ∷ cell 1 1 1 1 [] ∷ [])
+    ∷ rows Body Body (cell 0 0 1 1 [] ∷ cell 0 1 1 1 [] ∷ cell 1 0 1 1 [] ∷ [])
+    ∷ rows Body Body (cell 0 0 2 1 [] ∷ cell 1 0 2 1 [] ∷ []) ∷ rows Body Body (cell 0 0 1 2 [] ∷ cell 0 1 1 2 [] ∷ [])
+    ∷ rows Body Head (cell 0 0 1 1 [] ∷ cell 0 1 1 1 [] ∷ cell 1 0 1 1 [] ∷ cell 1 1 1 1 [] ∷ [])
+    ∷ rows Head Body (cell 0 0 1 2 [] ∷ cell 0 1 1 1 [] ∷ cell 1 1 1 1 [] ∷ []) ∷ []) ≡ replicate 11 false
+unfolding redrawing
+each-rule-alone = refl
 
 keeps-all : keepsRules (two (cell 0 0 2 1 [] ∷ cell 1 0 1 1 [] ∷ cell 1 1 1 1 [] ∷ [])) ≡ true
 unfolding redrawing

@@ -5,7 +5,7 @@ use Prim.Native.Nat.{ℕ}
 use lib.ListN.{replicate}
 use Rattle.seq.specs.Ascii.{ascii}
 use Rattle.grid.specs.Answer.{accept, refuse}
-use Rattle.grid.specs.Values.{Table}
+use Rattle.grid.specs.Values.{GridTableColumn, Table}
 use Rattle.grid.specs.Flat.{tableSizes, tableArrays}
 use Rattle.grid.specs.declared.TableAlignment.the-variants.{None, Left, Right}
 use Rattle.grid.specs.declared.GridTableSection.{GridTableSection}
@@ -25,9 +25,28 @@ limit-before-set : redraw 256 (alone None Body (ascii "\r" ∷ [])) ≡ refuse 2
 unfolding redrawing
 limit-before-set = refl
 
-cell-lines-past-their-limit : redraw 0 (alone None Body (replicate 129 [])) ≡ refuse 2 0
+-- a table that breaks the grid rules, and so is an 8 where no limit is passed
+abbrev broken : List GridTableColumn → List GridTableSection → List (List (List ℕ)) → Table
+broken columns sections cells = record { columns = columns; sections = sections; cells = map (cell 0 0 1 1) cells ++ cell 0 0 1 1 [] ∷ [] }
+
+-- 127 and 128 columns, widths 128 and 129, 127 and 128 rows, 1,024 and 1,025 cells
+limits-of-a-shape : map (redraw 255)
+    (broken (replicate 127 (col None 1)) (Body ∷ []) ([] ∷ []) ∷ broken (replicate 128 (col None 1)) (Body ∷ []) ([] ∷ [])
+    ∷ broken (col None 128 ∷ []) (Body ∷ []) ([] ∷ []) ∷ broken (col None 129 ∷ []) (Body ∷ []) ([] ∷ [])
+    ∷ broken (col None 1 ∷ []) (replicate 127 Body) ([] ∷ []) ∷ broken (col None 1 ∷ []) (replicate 128 Body) ([] ∷ [])
+    ∷ broken (col None 1 ∷ []) (Body ∷ []) (replicate 1023 []) ∷ broken (col None 1 ∷ []) (Body ∷ []) (replicate 1024 []) ∷ [])
+    ≡ refuse 8 0 ∷ refuse 2 0 ∷ refuse 8 0 ∷ refuse 2 0 ∷ refuse 8 0 ∷ refuse 2 0 ∷ refuse 8 0 ∷ refuse 2 0 ∷ []
 unfolding redrawing
-cell-lines-past-their-limit = refl
+limits-of-a-shape = refl
+
+-- 128 and 129 lines in a cell, 16,384 lines in all and one more, a line of 512 and of 513 bytes, 32,768 bytes in all and one more
+limits-of-its-text : map (λ cells. redraw 255 (broken (col None 1 ∷ []) (Body ∷ []) cells))
+    ((replicate 128 [] ∷ []) ∷ (replicate 129 [] ∷ []) ∷ replicate 128 (replicate 128 []) ∷ ((([] ∷ []) ∷ replicate 128 (replicate 128 [])))
+    ∷ (text1 (replicate 512 0x61) ∷ []) ∷ (text1 (replicate 513 0x61) ∷ []) ∷ (replicate 64 (replicate 512 0x61) ∷ [])
+    ∷ ((ascii "a" ∷ replicate 64 (replicate 512 0x61)) ∷ []) ∷ [])
+    ≡ refuse 8 0 ∷ refuse 2 0 ∷ refuse 8 0 ∷ refuse 2 0 ∷ refuse 8 0 ∷ refuse 2 0 ∷ refuse 8 0 ∷ refuse 2 0 ∷ []
+unfolding redrawing
+limits-of-its-text = refl
 
 dropped-lines-count : redraw 0 (alone None Foot (ascii "a" ∷ [] ∷ ascii "\r" ∷ [])) ≡ refuse 3 2
 unfolding redrawing
@@ -69,6 +88,10 @@ drawn-129-wide : redraw 0 (declared 127 None Body []) ≡ refuse 2 0
 unfolding redrawing
 drawn-129-wide = refl
 
+drawn-129-lines : redraw 0 (alone None Body (replicate 127 (ascii "a"))) ≡ refuse 2 0
+unfolding redrawing
+drawn-129-lines = refl
+
 drawn-too-wide : redraw 0 (alone None Body (text1 (replicate 127 0x61))) ≡ refuse 2 0
 unfolding redrawing
 drawn-too-wide = refl
@@ -103,43 +126,44 @@ corner-above-alone-splits-nothing = refl
 
 -- The arrays of a call
 
-abbrev lent : List ℕ → DrawingArrays
-lent columns = record { lengths = 9 ∷ 9 ∷ 9 ∷ []; columns = columns; text = ascii "????????????????" }
+-- room for so many numbers in each array
+abbrev lent : ℕ → ℕ → ℕ → DrawingArrays
+lent lengths columns text = record { lengths = replicate lengths 91; columns = replicate columns 92; text = replicate text 0x5d }
 
 abbrev given : Table
 given = alone None Body (text1 (ascii "b" ++ mark))
 
-drawing-written : redrawAfterwards redrawSpace 7 (tableSizes given) (tableArrays given) (lent (9 ∷ 9 ∷ 9 ∷ 9 ∷ []))
-    ≡ record { lengths = 4 ∷ 6 ∷ 4 ∷ []; columns = 7 ∷ 7 ∷ 7 ∷ 9 ∷ []; text = ascii "+--+| b" ++ mark ++ ascii "|+--+??" }
+drawing-written : redrawAfterwards redrawSpace 7 (tableSizes given) (tableArrays given) (lent 4 4 15)
+    ≡ record { lengths = 4 ∷ 6 ∷ 4 ∷ 91 ∷ []; columns = 7 ∷ 7 ∷ 7 ∷ 92 ∷ []; text = ascii "+--+| b" ++ mark ++ ascii "|+--+]" }
 unfolding redrawing
 drawing-written = refl
 
-sizes-drawn : redrawAnswer redrawSpace 7 (tableSizes given) (tableArrays given) (lent (9 ∷ 9 ∷ 9 ∷ [])) ≡ accept (record { lines = 3; bytes = 14 })
+sizes-drawn : redrawAnswer redrawSpace 7 (tableSizes given) (tableArrays given) (lent 3 3 14) ≡ accept (record { lines = 3; bytes = 14 })
 unfolding redrawing
 sizes-drawn = refl
 
-columns-too-short : redrawAnswer redrawSpace 7 (tableSizes given) (tableArrays given) (lent (9 ∷ 9 ∷ [])) ≡ refuse 12 0
+each-output-too-short : map (redrawAnswer redrawSpace 7 (tableSizes given) (tableArrays given)) (lent 2 3 14 ∷ lent 3 2 14 ∷ lent 3 3 13 ∷ []) ≡ replicate 3 (refuse 12 0)
 unfolding redrawing
-columns-too-short = refl
+each-output-too-short = refl
 
-refused-redraw-writes-nothing : redrawAfterwards redrawSpace 7 (tableSizes given) (tableArrays given) (lent (9 ∷ 9 ∷ [])) ≡ lent (9 ∷ 9 ∷ [])
+refused-redraw-writes-nothing : redrawAfterwards redrawSpace 7 (tableSizes given) (tableArrays given) (lent 3 2 14) ≡ lent 3 2 14
 unfolding redrawing
 refused-redraw-writes-nothing = refl
 
 -- working space by its number, and the largest origin
-space-as-named : map (λ space. redrawAnswer space 255 (tableSizes given) (tableArrays given) (lent (9 ∷ 9 ∷ 9 ∷ []))) (49664 ∷ 49663 ∷ [])
+space-as-named : map (λ space. redrawAnswer space 255 (tableSizes given) (tableArrays given) (lent 3 3 14)) (49664 ∷ 49663 ∷ [])
     ≡ accept (record { lines = 3; bytes = 14 }) ∷ refuse 13 0 ∷ []
 unfolding redrawing
 space-as-named = refl
 
 contradiction-before-no-cells : redrawAnswer redrawSpace 0 (record { columns = 0; rows = 1; cells = 0; lines = 0; bytes = 0 })
-    (record { columns = []; sections = []; cells = []; lengths = []; text = [] }) (lent []) ≡ refuse 13 0
+    (record { columns = []; sections = []; cells = []; lengths = []; text = [] }) (lent 0 0 0) ≡ refuse 13 0
 unfolding redrawing
 contradiction-before-no-cells = refl
 
 abbrev splitting : Table
 splitting = between [] (text1 (ascii "|a"))
 
-split-before-output : redrawAnswer redrawSpace 0 (tableSizes splitting) (tableArrays splitting) (lent []) ≡ refuse 11 2
+split-before-output : redrawAnswer redrawSpace 0 (tableSizes splitting) (tableArrays splitting) (lent 0 0 0) ≡ refuse 11 2
 unfolding redrawing
 split-before-output = refl

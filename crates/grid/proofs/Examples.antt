@@ -1,15 +1,21 @@
 -- Computed examples of reading and of its refusals, at their edges. Expected values are worked out by hand from document 01.
 use mathlib.Core.Path.{_≡_, refl}
-use mathlib.Core.List.{List, [], _∷_, _++_}
+use mathlib.Core.List.{List, [], _∷_, _++_, map, flatMap}
 use Prim.Native.Nat.{ℕ}
 use lib.ListN.{replicate}
 use Rattle.seq.specs.Ascii.{ascii}
 use Rattle.grid.specs.Computing.{reading}
+use Rattle.grid.specs.Answer.{refuse}
+use Rattle.grid.specs.Read.{readLayout}
 use Rattle.grid.specs.Listing.{listing}
 
 -- U+0301, a mark that takes no column
 abbrev pub mark : List ℕ
 mark = 0xcc ∷ 0x81 ∷ []
+
+-- lines, each ended by a line feed
+abbrev flatten : List (List ℕ) → List ℕ
+flatten lines = flatMap (λ line. line ++ ascii "\n") lines
 
 -- Reading
 
@@ -68,6 +74,22 @@ third-separator = refl
 no-lines : listing [] ≡ ascii "refused 1 0\n"
 unfolding reading
 no-lines = refl
+
+-- 128 and 129 lines, a line of 512 and of 513 bytes, 32,768 bytes and one more
+limits-of-a-drawing : map listing
+    (flatten (replicate 128 (ascii "x")) ∷ flatten (replicate 129 (ascii "x")) ∷ replicate 512 0x78 ∷ replicate 513 0x78
+    ∷ flatten (replicate 64 (replicate 512 0x78)) ∷ (flatten (replicate 64 (replicate 512 0x78)) ++ ascii "x") ∷ [])
+    ≡ ascii "refused 4 0\n" ∷ ascii "refused 2 0\n" ∷ ascii "refused 4 0\n" ∷ ascii "refused 2 0\n" ∷ ascii "refused 4 0\n" ∷ ascii "refused 2 0\n" ∷ []
+unfolding reading
+limits-of-a-drawing = refl
+
+limit-of-a-column : map (λ c. readLayout (record { text = ascii "x"; column = c } ∷ [])) (255 ∷ 256 ∷ []) ≡ refuse 4 0 ∷ refuse 2 0 ∷ []
+unfolding reading
+limit-of-a-column = refl
+
+widest-read : listing (flatten (replicate 2 (ascii "+" ++ replicate 126 0x2d ++ ascii "+"))) ≡ ascii "grid 128 2 1 1 1\ncol 0 126 N\nrow 0 B 0 1\ncell 0 0 1 1 0\n"
+unfolding reading
+widest-read = refl
 
 -- untrimmed, the first line has 513 bytes
 limit-before-set : listing (ascii "+-+" ++ replicate 510 0x20 ++ ascii "\n\r\n") ≡ ascii "refused 2 0\n"

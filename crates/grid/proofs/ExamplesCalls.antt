@@ -1,7 +1,7 @@
 -- Computed examples of the calls and their arrays, at their edges. Expected values are worked out by hand from document 01.
 use mathlib.Core.Path.{_≡_, refl}
 use mathlib.Core.Bool.{true, false}
-use mathlib.Core.List.{List, [], _∷_}
+use mathlib.Core.List.{List, [], _∷_, _++_, map}
 use Prim.Native.Nat.{ℕ}
 use lib.ListN.{replicate}
 use Rattle.seq.specs.Ascii.{ascii}
@@ -12,114 +12,156 @@ use Rattle.grid.specs.Flat.{FlatDrawing, TableSizes, TableArrays, flatDr
 use Rattle.grid.specs.LayoutCall.{LayoutSpace, LayoutArrays, layoutAnswer, layoutAfterwards}
 use Rattle.grid.specs.TableCall.{TableSpace, tableAnswer, tableAfterwards, cellAnswer, cellAfterwards}
 
--- The layout call
-
-abbrev small : FlatDrawing
-small = record { lines = 3; bytes = 9; lengths = 3 ∷ 3 ∷ 3 ∷ []; columns = 0 ∷ 0 ∷ 0 ∷ []; text = ascii "+-+|a|+-+" }
-
-abbrev space : ℕ → LayoutSpace
-space rects = record { glyphs = 16384; offsets = 16384; down = 16384; right = 16384; rects = rects }
-
-abbrev lent : List ℕ → LayoutArrays
-lent ranges = record { columns = 9 ∷ 9 ∷ 9 ∷ []; rows = 9 ∷ 9 ∷ 9 ∷ 9 ∷ []; cells = 9 ∷ 9 ∷ 9 ∷ 9 ∷ 9 ∷ 9 ∷ []; ranges = ranges }
-
-lengths-contradict : layoutAnswer (space 4096) (record { lines = 1; bytes = 6; lengths = 3 ∷ 3 ∷ []; columns = 0 ∷ []; text = ascii "+-++-+" }) (lent (9 ∷ 9 ∷ []))
-    ≡ refuse 13 0
-unfolding reading
-lengths-contradict = refl
+-- four cells in two rows and three columns; every line stands at a column of its own, and line 2 has a character of two bytes
+abbrev sheet : FlatDrawing
+sheet =
+    record {
+      lines = 6;
+      bytes = 55;
+      lengths = 9 ∷ 9 ∷ 10 ∷ 9 ∷ 9 ∷ 9 ∷ [];
+      columns = 2 ∷ 13 ∷ 24 ∷ 35 ∷ 46 ∷ 57 ∷ [];
+      text = ascii "+-+:----+|a| b   ||" ++ 0xc3 ∷ 0xa9 ∷ ascii "|     |+-+--+--+| d e|c |+----+--+";
+    }
 
 -- no line, of one byte
 abbrev noLine : FlatDrawing
 noLine = record { lines = 0; bytes = 1; lengths = []; columns = []; text = [] }
 
-contradiction-before-no-lines : layoutAnswer (space 4096) noLine (lent []) ≡ refuse 13 0
-unfolding reading
-contradiction-before-no-lines = refl
+abbrev space : LayoutSpace
+space = record { glyphs = 16384; offsets = 16384; down = 16384; right = 16384; rects = 4096 }
 
-space-too-short : layoutAnswer (space 4095) small (lent (9 ∷ 9 ∷ [])) ≡ refuse 13 0
-unfolding reading
-space-too-short = refl
+-- The layout call
 
-output-too-short : layoutAnswer (space 4096) small (lent (9 ∷ [])) ≡ refuse 12 0
-unfolding reading
-output-too-short = refl
+-- room for so many numbers in each array
+abbrev lent : ℕ → ℕ → ℕ → ℕ → LayoutArrays
+lent columns rows cells ranges =
+    record { columns = replicate columns 91; rows = replicate rows 92; cells = replicate cells 93; ranges = replicate ranges 94 }
 
-refused-call-writes-nothing : layoutAfterwards (space 4096) small (lent (9 ∷ [])) ≡ lent (9 ∷ [])
-unfolding reading
-refused-call-writes-nothing = refl
-
-sizes-answered : layoutAnswer (space 4096) small (lent (9 ∷ 9 ∷ [])) ≡ accept (record { width = 3; columns = 1; rows = 1; cells = 1; ranges = 1 })
+sizes-answered : layoutAnswer space sheet (lent 6 6 20 12) ≡ accept (record { width = 9; columns = 3; rows = 2; cells = 4; ranges = 6 })
 unfolding reading
 sizes-answered = refl
 
-accepted-call-keeps-the-rest : layoutAfterwards (space 4096) small (lent (9 ∷ 9 ∷ 9 ∷ []))
-    ≡ record { columns = 0 ∷ 1 ∷ 9 ∷ []; rows = 1 ∷ 0 ∷ 2 ∷ 9 ∷ []; cells = 0 ∷ 0 ∷ 1 ∷ 1 ∷ 0 ∷ 9 ∷ []; ranges = 1 ∷ 2 ∷ 9 ∷ [] }
+accepted-call-keeps-the-rest : layoutAfterwards space sheet (lent 7 7 21 13)
+    ≡ record {
+      columns = 0 ∷ 1 ∷ 1 ∷ 2 ∷ 0 ∷ 2 ∷ 91 ∷ [];
+      rows = 1 ∷ 0 ∷ 3 ∷ 1 ∷ 3 ∷ 5 ∷ 92 ∷ [];
+      cells = 0 ∷ 0 ∷ 1 ∷ 1 ∷ 0 ∷ 0 ∷ 1 ∷ 2 ∷ 1 ∷ 2 ∷ 1 ∷ 0 ∷ 2 ∷ 1 ∷ 0 ∷ 1 ∷ 2 ∷ 1 ∷ 1 ∷ 5 ∷ 93 ∷ [];
+      ranges = 1 ∷ 2 ∷ 1 ∷ 3 ∷ 3 ∷ 8 ∷ 4 ∷ 9 ∷ 1 ∷ 5 ∷ 6 ∷ 8 ∷ 94 ∷ [];
+    }
 unfolding reading
 accepted-call-keeps-the-rest = refl
 
+each-output-too-short : map (layoutAnswer space sheet) (lent 5 6 20 12 ∷ lent 6 5 20 12 ∷ lent 6 6 19 12 ∷ lent 6 6 20 11 ∷ []) ≡ replicate 4 (refuse 12 0)
+unfolding reading
+each-output-too-short = refl
+
+refused-call-writes-nothing : layoutAfterwards space sheet (lent 6 6 20 11) ≡ lent 6 6 20 11
+unfolding reading
+refused-call-writes-nothing = refl
+
+abbrev spaceOf : ℕ → ℕ → ℕ → ℕ → ℕ → LayoutSpace
+spaceOf glyphs offsets down right rects = record { glyphs = glyphs; offsets = offsets; down = down; right = right; rects = rects }
+
+each-space-too-short : map (λ w. layoutAnswer w sheet (lent 6 6 20 12))
+    (spaceOf 16383 16384 16384 16384 4096 ∷ spaceOf 16384 16383 16384 16384 4096 ∷ spaceOf 16384 16384 16383 16384 4096
+    ∷ spaceOf 16384 16384 16384 16383 4096 ∷ spaceOf 16384 16384 16384 16384 4095 ∷ []) ≡ replicate 5 (refuse 13 0)
+unfolding reading
+each-space-too-short = refl
+
+-- one line of three bytes, with these arrays
+abbrev oneLine : List ℕ → List ℕ → List ℕ → FlatDrawing
+oneLine lengths columns text = record { lines = 1; bytes = 3; lengths = lengths; columns = columns; text = text }
+
+-- a length more, a column more, a byte more, and lengths that do not add up to the bytes; then none of these
+each-contradiction : map (λ d. layoutAnswer space d (lent 6 6 20 12))
+    (oneLine (3 ∷ 0 ∷ []) (0 ∷ []) (ascii "+-+") ∷ oneLine (3 ∷ []) (0 ∷ 0 ∷ []) (ascii "+-+") ∷ oneLine (3 ∷ []) (0 ∷ []) (ascii "+-+-")
+    ∷ oneLine (2 ∷ []) (0 ∷ []) (ascii "+-+") ∷ oneLine (3 ∷ []) (0 ∷ []) (ascii "+-+") ∷ [])
+    ≡ refuse 13 0 ∷ refuse 13 0 ∷ refuse 13 0 ∷ refuse 13 0 ∷ refuse 6 0 ∷ []
+unfolding reading
+each-contradiction = refl
+
+contradiction-before-no-lines : layoutAnswer space noLine (lent 0 0 0 0) ≡ refuse 13 0
+unfolding reading
+contradiction-before-no-lines = refl
+
 -- From a drawing to its table
 
-abbrev spanned : FlatDrawing
-spanned =
-    record { lines = 3; bytes = 27; lengths = 9 ∷ 9 ∷ 9 ∷ []; columns = 5 ∷ 5 ∷ 5 ∷ []; text = ascii "+:--+---+| a | b |+---+---+" }
-
-abbrev lentTable : List ℕ → TableArrays
-lentTable text =
-    record { columns = 9 ∷ 9 ∷ 9 ∷ 9 ∷ []; sections = 9 ∷ []; cells = replicate 11 9; lengths = 9 ∷ 9 ∷ []; text = text }
+abbrev lentTable : ℕ → ℕ → ℕ → ℕ → ℕ → TableArrays
+lentTable columns sections cells lengths text =
+    record { columns = replicate columns 91; sections = replicate sections 92; cells = replicate cells 93; lengths = replicate lengths 94; text = replicate text 95 }
 
 abbrev roomy : TableSpace
 roomy = record { starts = 128; counts = 1024 }
 
-table-written : tableAfterwards (space 4096) roomy spanned (lentTable (ascii "??"))
+table-written : tableAfterwards space roomy sheet (lentTable 7 3 21 6 9)
     ≡ record {
-      columns = 1 ∷ 3 ∷ 0 ∷ 3 ∷ [];
-      sections = 1 ∷ [];
-      cells = 0 ∷ 0 ∷ 1 ∷ 1 ∷ 1 ∷ 0 ∷ 1 ∷ 1 ∷ 1 ∷ 1 ∷ 9 ∷ [];
-      lengths = 1 ∷ 1 ∷ [];
-      text = ascii "ab";
+      columns = 0 ∷ 1 ∷ 1 ∷ 2 ∷ 0 ∷ 2 ∷ 91 ∷ [];
+      sections = 1 ∷ 1 ∷ 92 ∷ [];
+      cells = 0 ∷ 0 ∷ 1 ∷ 1 ∷ 2 ∷ 0 ∷ 1 ∷ 2 ∷ 1 ∷ 1 ∷ 1 ∷ 0 ∷ 2 ∷ 1 ∷ 1 ∷ 1 ∷ 2 ∷ 1 ∷ 1 ∷ 1 ∷ 93 ∷ [];
+      lengths = 1 ∷ 2 ∷ 1 ∷ 3 ∷ 1 ∷ 94 ∷ [];
+      text = ascii "a" ++ 0xc3 ∷ 0xa9 ∷ ascii "bd ec_";
     }
 unfolding reading
 table-written = refl
 
-table-sizes : tableAnswer (space 4096) roomy spanned (lentTable (ascii "??")) ≡ accept (record { columns = 2; rows = 1; cells = 2; lines = 2; bytes = 2 })
+table-sizes : tableAnswer space roomy sheet (lentTable 6 2 20 5 8) ≡ accept (record { columns = 3; rows = 2; cells = 4; lines = 5; bytes = 8 })
 unfolding reading
 table-sizes = refl
 
-table-text-too-short : tableAnswer (space 4096) roomy spanned (lentTable (ascii "?")) ≡ refuse 12 0
+each-table-output-too-short : map (tableAnswer space roomy sheet)
+    (lentTable 5 2 20 5 8 ∷ lentTable 6 1 20 5 8 ∷ lentTable 6 2 19 5 8 ∷ lentTable 6 2 20 4 8 ∷ lentTable 6 2 20 5 7 ∷ []) ≡ replicate 5 (refuse 12 0)
 unfolding reading
-table-text-too-short = refl
+each-table-output-too-short = refl
 
-table-space-too-short : tableAnswer (space 4096) (record { starts = 127; counts = 1024 }) spanned (lentTable (ascii "??")) ≡ refuse 13 0
+each-table-space-too-short : map (λ s. tableAnswer space s sheet (lentTable 6 2 20 5 8)) (record { starts = 127; counts = 1024 } ∷ record { starts = 128; counts = 1023 } ∷ []) ≡ replicate 2 (refuse 13 0)
 unfolding reading
-table-space-too-short = refl
+each-table-space-too-short = refl
 
-table-contradiction-before-no-lines : tableAnswer (space 4096) roomy noLine (lentTable []) ≡ refuse 13 0
+table-contradiction-before-no-lines : tableAnswer space roomy noLine (lentTable 0 0 0 0 0) ≡ refuse 13 0
 unfolding reading
 table-contradiction-before-no-lines = refl
 
-cell-cut : cellAfterwards (space 4096) 128 spanned 1 (9 ∷ 9 ∷ 9 ∷ 9 ∷ 9 ∷ []) ≡ 1 ∷ 6 ∷ 7 ∷ 11 ∷ 9 ∷ []
+-- both inner lines of cell 1, the second of which is empty
+cell-cut : cellAfterwards space 128 sheet 1 (replicate 9 96) ≡ 1 ∷ 4 ∷ 5 ∷ 17 ∷ 2 ∷ 4 ∷ 4 ∷ 27 ∷ 96 ∷ []
 unfolding reading
 cell-cut = refl
 
-cell-past-the-end : cellAnswer (space 4096) 128 spanned 2 [] ≡ refuse 13 0
+cell-lines-counted : map (λ room. cellAnswer space 128 sheet 1 (replicate room 96)) (8 ∷ 7 ∷ []) ≡ accept 2 ∷ refuse 12 0 ∷ []
+unfolding reading
+cell-lines-counted = refl
+
+cell-past-the-end : map (λ k. cellAnswer space 128 sheet k (replicate 4 96)) (3 ∷ 4 ∷ []) ≡ accept 1 ∷ refuse 13 0 ∷ []
 unfolding reading
 cell-past-the-end = refl
 
-cell-contradiction-before-no-lines : cellAnswer (space 4096) 128 noLine 0 [] ≡ refuse 13 0
+cell-space-too-short : cellAnswer space 127 sheet 3 (replicate 4 96) ≡ refuse 13 0
+unfolding reading
+cell-space-too-short = refl
+
+cell-contradiction-before-no-lines : cellAnswer space 128 noLine 0 [] ≡ refuse 13 0
 unfolding reading
 cell-contradiction-before-no-lines = refl
 
 -- The arrays of a table
 
+abbrev arraysOf : List ℕ → List ℕ → List ℕ → List ℕ → List ℕ → TableArrays
+arraysOf columns sections cells lengths text = record { columns = columns; sections = sections; cells = cells; lengths = lengths; text = text }
+
+-- two columns, two sections and two cells, with two lines and one
+abbrev cs : List ℕ
+cs = 3 ∷ 7 ∷ 2 ∷ 8 ∷ []
+
+abbrev ss : List ℕ
+ss = 0 ∷ 2 ∷ []
+
+abbrev es : List ℕ
+es = 0 ∷ 0 ∷ 2 ∷ 1 ∷ 2 ∷ 1 ∷ 0 ∷ 2 ∷ 1 ∷ 1 ∷ []
+
+abbrev ls : List ℕ
+ls = 1 ∷ 0 ∷ 3 ∷ []
+
 abbrev twoCells : TableArrays
-twoCells =
-    record {
-      columns = 3 ∷ 7 ∷ 2 ∷ 8 ∷ [];
-      sections = 0 ∷ 2 ∷ [];
-      cells = 0 ∷ 0 ∷ 2 ∷ 1 ∷ 2 ∷ 1 ∷ 0 ∷ 2 ∷ 1 ∷ 1 ∷ [];
-      lengths = 1 ∷ 0 ∷ 3 ∷ [];
-      text = ascii "abcd";
-    }
+twoCells = arraysOf cs ss es ls (ascii "abcd")
 
 abbrev twoSizes : TableSizes
 twoSizes = record { columns = 2; rows = 2; cells = 2; lines = 3; bytes = 4 }
@@ -136,12 +178,22 @@ sizes-agree : tableContradicts twoSizes twoCells ≡ false
 unfolding reading
 sizes-agree = refl
 
-codes-past-their-cases : tableContradicts (record { columns = 1; rows = 1; cells = 0; lines = 0; bytes = 0 })
-    (record { columns = 0 ∷ 0 ∷ []; sections = 3 ∷ []; cells = []; lengths = []; text = [] }) ≡ true
+-- each array one longer; lengths that do not add up to the bytes; numbers of lines that do not add up to the lines; codes of no case
+each-table-contradiction : map (tableContradicts twoSizes)
+    (arraysOf (cs ++ 0 ∷ []) ss es ls (ascii "abcd") ∷ arraysOf cs (0 ∷ 2 ∷ 2 ∷ []) es ls (ascii "abcd") ∷ arraysOf cs ss (es ++ 0 ∷ []) ls (ascii "abcd")
+    ∷ arraysOf cs ss es (1 ∷ 0 ∷ 3 ∷ 0 ∷ []) (ascii "abcd") ∷ arraysOf cs ss es ls (ascii "abcde") ∷ arraysOf cs ss es (1 ∷ 0 ∷ 2 ∷ []) (ascii "abcd")
+    ∷ arraysOf cs ss (0 ∷ 0 ∷ 2 ∷ 1 ∷ 2 ∷ 1 ∷ 0 ∷ 2 ∷ 1 ∷ 2 ∷ []) ls (ascii "abcd") ∷ arraysOf (3 ∷ 7 ∷ 4 ∷ 8 ∷ []) ss es ls (ascii "abcd")
+    ∷ arraysOf cs (0 ∷ 3 ∷ []) es ls (ascii "abcd") ∷ []) ≡ replicate 9 true
 unfolding reading
-codes-past-their-cases = refl
+each-table-contradiction = refl
 
-drawing-taken-apart : flatDrawing (linesOf spanned) ≡ spanned
+-- more columns than cells
+last-code-past-its-cases : tableContradicts (record { columns = 2; rows = 1; cells = 1; lines = 0; bytes = 0 })
+    (record { columns = 0 ∷ 1 ∷ 4 ∷ 1 ∷ []; sections = 1 ∷ []; cells = 0 ∷ 0 ∷ 2 ∷ 1 ∷ 0 ∷ []; lengths = []; text = [] }) ≡ true
+unfolding reading
+last-code-past-its-cases = refl
+
+drawing-taken-apart : flatDrawing (linesOf sheet) ≡ sheet
 unfolding reading
 drawing-taken-apart = refl
 

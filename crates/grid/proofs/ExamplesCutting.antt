@@ -2,6 +2,7 @@
 use mathlib.Core.Path.{_≡_, refl}
 use mathlib.Core.List.{List, [], _∷_, _++_, map}
 use Prim.Native.Nat.{ℕ}
+use lib.ListN.{replicate}
 use Rattle.seq.specs.Ascii.{ascii}
 use Rattle.grid.specs.Computing.{reading}
 use Rattle.grid.specs.Answer.{Answer, accept, refuse}
@@ -52,10 +53,6 @@ range-into-a-character : cutAnswer (record { text = 0x80 ∷ []; column = 0 }) 0
 unfolding reading
 range-into-a-character = refl
 
-left-past-its-limit : cutAnswer (record { text = ascii "abcd"; column = 0 }) 0 0 (record { start = 0; end = 1 }) 128 ≡ refuse 2 0
-unfolding reading
-left-past-its-limit = refl
-
 cut-in-numbers : cutNumbersAnswer (record { text = ascii "| ab |"; column = 0 }) 7 20 (record { start = 1; end = 5 }) 0
     ≡ accept (record { start = 2; end = 4; line = 7; byte = 22; column = 2 })
 unfolding reading
@@ -69,3 +66,22 @@ limits-of-cutting : cutAnswer (record { text = ascii "abcd"; column = 255 }) 655
     ≡ accept (record { text = ascii "a"; line = 65535; byte = 65535; column = 383 })
 unfolding reading
 limits-of-cutting = refl
+
+-- a line of 513 bytes, a column, a left column, a line number and a table byte, each past its limit alone
+each-limit-of-cutting-passed : cutAnswer (record { text = replicate 513 0x61; column = 0 }) 7 20 (record { start = 0; end = 1 }) 0
+    ∷ cutAnswer (record { text = ascii "abcd"; column = 256 }) 7 20 (record { start = 0; end = 1 }) 0
+    ∷ cutAnswer (record { text = ascii "abcd"; column = 0 }) 7 20 (record { start = 0; end = 1 }) 128
+    ∷ cutAnswer (record { text = ascii "abcd"; column = 0 }) 65536 20 (record { start = 0; end = 1 }) 0
+    ∷ cutAnswer (record { text = ascii "abcd"; column = 0 }) 7 65536 (record { start = 0; end = 1 }) 0 ∷ [] ≡ replicate 5 (refuse 2 0)
+unfolding reading
+each-limit-of-cutting-passed = refl
+
+-- ranges of `a`, a character of two bytes, `b`: backwards, past the line, into the character at its start and at its end; then the
+-- whole line, and the empty part at its end
+ranges-of-a-line : map (λ r. cutNumbersAnswer (record { text = 0x61 ∷ 0xc3 ∷ 0xa9 ∷ 0x62 ∷ []; column = 0 }) 7 20 r 0)
+    (record { start = 4; end = 3 } ∷ record { start = 0; end = 5 } ∷ record { start = 2; end = 4 } ∷ record { start = 0; end = 2 }
+    ∷ record { start = 0; end = 4 } ∷ record { start = 4; end = 4 } ∷ [])
+    ≡ refuse 13 0 ∷ refuse 13 0 ∷ refuse 13 0 ∷ refuse 13 0 ∷ accept (record { start = 0; end = 4; line = 7; byte = 20; column = 1 })
+    ∷ accept (record { start = 4; end = 4; line = 7; byte = 24; column = 1 }) ∷ []
+unfolding reading
+ranges-of-a-line = refl

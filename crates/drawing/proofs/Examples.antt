@@ -3,7 +3,8 @@ use mathlib.Core.Path.{_≡_, refl}
 use mathlib.Core.Bool.{true, false}
 use mathlib.Core.List.{List, [], _∷_, _++_, map, flatMap}
 use Prim.Native.Nat.{ℕ}
-use lib.ListN.{replicate}
+use lib.ListN.{length, replicate}
+use Rattle.seq.specs.Lists.{upTo}
 use Rattle.seq.specs.Ascii.{ascii}
 use Rattle.grid.specs.Answer.{Answer, accept, andThen}
 use Rattle.grid.specs.Values.{TableCell, Table}
@@ -83,6 +84,15 @@ three-sections : shown (redraw 0 (parts Head Body Foot)) ≡ ascii "+----+--+\n|
 unfolding redrawing
 three-sections = refl
 
+-- one column, an empty cell in each row
+abbrev stack : List GridTableSection → Table
+stack sections = record { columns = col None 1 ∷ []; sections = sections; cells = map (λ r. cell r 0 1 1 []) (upTo (length sections)) }
+
+rules-between-sections : map (λ sections. shown (redraw 0 (stack sections))) ((Head ∷ Body ∷ []) ∷ (Head ∷ Head ∷ Foot ∷ []) ∷ (Head ∷ Body ∷ Foot ∷ Foot ∷ []) ∷ [])
+    ≡ ascii "+-+\n| |\n+=+\n| |\n+-+\n" ∷ ascii "+-+\n| |\n+-+\n| |\n+=+\n| |\n+=+\n" ∷ ascii "+-+\n| |\n+=+\n| |\n+=+\n| |\n+-+\n| |\n+=+\n" ∷ []
+unfolding redrawing
+rules-between-sections = refl
+
 each-alignment : map (λ a. shown (redraw 0 (alone a Body []))) (None ∷ Left ∷ Right ∷ Center ∷ [])
     ≡ ascii "+-+\n| |\n+-+\n" ∷ ascii "+:--+\n|   |\n+---+\n" ∷ ascii "+--:+\n|   |\n+---+\n" ∷ ascii "+:-:+\n|   |\n+---+\n" ∷ []
 unfolding redrawing
@@ -109,6 +119,12 @@ tab-counts-four = refl
 tab-at-another-origin : shown (redraw 1 (alone None Body (text1 (ascii "a\tb")))) ≡ ascii "+-------+\n| a\tb|\n+-------+\n"
 unfolding redrawing
 tab-at-another-origin = refl
+
+-- its text starts at column 4
+tab-in-the-second-column : shown (redraw 0 (record { columns = col None 1 ∷ col None 1 ∷ []; sections = Body ∷ []; cells = cell 0 0 1 1 [] ∷ cell 0 1 1 1 (text1 (ascii "a\tb")) ∷ [] }))
+    ≡ ascii "+-+-------+\n| | a\tb |\n+-+-------+\n"
+unfolding redrawing
+tab-in-the-second-column = refl
 
 mark-at-a-start : shown (redraw 0 (alone None Body (text1 (mark ++ ascii "a")))) ≡ ascii "+--+\n| " ++ mark ++ ascii "a|\n+--+\n"
 unfolding redrawing

@@ -111,6 +111,17 @@ splits-at-the-corner : redraw 0 (between [] (text1 (ascii "|" ++ mark ++ ascii "
 unfolding redrawing
 splits-at-the-corner = refl
 
+-- the cell's borders are lines 4 and 6, and columns 3 and 7
+splits-in-a-later-column : redraw 0
+    (record {
+      columns = replicate 3 (col None 1);
+      sections = replicate 3 Body;
+      cells = cell 0 0 1 1 (ascii "p" ∷ ascii "q" ∷ ascii "r" ∷ []) ∷ cell 0 1 1 1 [] ∷ cell 0 2 1 1 [] ∷ cell 1 0 1 1 [] ∷ cell 1 1 2 1 (text1 (ascii "|a"))
+          ∷ cell 2 0 1 1 [] ∷ cell 2 1 1 1 [] ∷ cell 2 2 1 1 [] ∷ [];
+    }) ≡ refuse 11 4
+unfolding redrawing
+splits-in-a-later-column = refl
+
 blank-line-keeps-it-whole : shown (redraw 0 (between [] (ascii "|a" ∷ [] ∷ ascii "+" ∷ []))) ≡ ascii "+-+-+\n| | |\n+-+-+\n| |a|\n|   |\n| + |\n+-+-+\n| | |\n+-+-+\n"
 unfolding redrawing
 blank-line-keeps-it-whole = refl

@@ -11,6 +11,7 @@ use Rattle.grid.specs.Read.{readTable}
 use Rattle.grid.specs.Cut.{cut}
 use Rattle.grid.specs.CutCall.{cutAnswer, cutNumbersAnswer, cutText}
 use Rattle.grid.specs.Listing.{linesRead}
+use Rattle.grid.specs.CellListing.{cellListing}
 use Rattle.grid.proofs.Examples.{mark}
 
 -- the cells' lines of a drawing that is read
@@ -29,6 +30,15 @@ mark-ends-a-rule = refl
 empty-last-lines-dropped : cellLines (readTable (linesRead (ascii "+---+\n|   |\n| a |\n|   |\n+---+\n"))) ≡ ([] ∷ ascii "a" ∷ []) ∷ []
 unfolding reading
 empty-last-lines-dropped = refl
+
+cells-listed : cellListing (ascii "+---+---+\n| xyz   |\n+---+---+\n| b | c |\n|   +---+\n| e | d |\n+---+---+\n")
+    ≡ ascii "table 2 3 4 6 7\ncell 0 0 2 1 1\n  xyz\ncell 1 0 1 2 3\n  b\n  \n  e\ncell 1 1 1 1 1\n  c\ncell 2 1 1 1 1\n  d\n"
+unfolding reading
+cells-listed = refl
+
+refusal-listed : cellListing (ascii "+-+\n+-+\n| |\n| \n") ≡ ascii "refused 5 3\n"
+unfolding reading
+refusal-listed = refl
 
 trimmed-before-the-first : cut (record { text = ascii "|   |"; column = 0 }) 7 20 (record { start = 1; end = 4 }) 0
     ≡ record { text = []; line = 7; byte = 21; column = 1 }

@@ -48,6 +48,11 @@ spans-both-ways : listing (ascii "+---+---+\n| a     |\n+---+---+\n| b | c |\n| 
 unfolding reading
 spans-both-ways = refl
 
+each-alignment-read : listing (ascii "+:-:+---:+:----+------+\n|   |    |     |      |\n+---+----+-----+------+\n")
+    ≡ ascii "grid 23 3 4 1 4\ncol 0 3 C\ncol 1 4 R\ncol 2 5 L\ncol 3 6 N\nrow 0 B 0 2\ncell 0 0 1 1 1\ncell 0 1 1 1 1\ncell 0 2 1 1 1\ncell 0 3 1 1 1\n"
+unfolding reading
+each-alignment-read = refl
+
 right-by-the-segment : listing (ascii "+--:+--+\n|      |\n+------+\n") ≡ ascii "grid 8 3 1 1 1\ncol 0 6 R\nrow 0 B 0 2\ncell 0 0 1 1 1\n"
 unfolding reading
 right-by-the-segment = refl

@@ -17,9 +17,9 @@ use Rattle.drawing.proofs.ExamplesTables.{shown, col, cell, text1, mark
 
 -- Refusals, each before the next
 
-no-cells-before-rows : redraw 0 (record { columns = []; sections = replicate 200 Body; cells = [] }) ≡ refuse 1 0
+no-cells-before-limit : redraw 0 (record { columns = []; sections = replicate 200 Body; cells = [] }) ≡ refuse 1 0
 unfolding redrawing
-no-cells-before-rows = refl
+no-cells-before-limit = refl
 
 limit-before-set : redraw 256 (alone None Body (ascii "\r" ∷ [])) ≡ refuse 2 0
 unfolding redrawing

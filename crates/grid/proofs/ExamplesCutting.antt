@@ -68,9 +68,17 @@ cut-in-numbers : cutNumbersAnswer (record { text = ascii "| ab |"; column = 0 })
 unfolding reading
 cut-in-numbers = refl
 
-refused-cut-is-empty : cutText (record { text = ascii "abcd"; column = 256 }) 0 0 (record { start = 0; end = 2 }) 0 ≡ []
+-- by the range, by the column, by the line number and by the table byte
+refused-cut-is-empty : cutText (record { text = ascii "abcd"; column = 0 }) 7 20 (record { start = 0; end = 5 }) 0
+    ∷ cutText (record { text = ascii "abcd"; column = 256 }) 7 20 (record { start = 0; end = 2 }) 0
+    ∷ cutText (record { text = ascii "abcd"; column = 0 }) 65536 20 (record { start = 0; end = 2 }) 0
+    ∷ cutText (record { text = ascii "abcd"; column = 0 }) 7 65536 (record { start = 0; end = 2 }) 0 ∷ [] ≡ replicate 4 []
 unfolding reading
 refused-cut-is-empty = refl
+
+cut-text : cutText (record { text = ascii "| ab |"; column = 0 }) 7 20 (record { start = 1; end = 5 }) 0 ≡ ascii "ab"
+unfolding reading
+cut-text = refl
 
 limits-of-cutting : cutAnswer (record { text = ascii "abcd"; column = 255 }) 65535 65535 (record { start = 0; end = 1 }) 127
     ≡ accept (record { text = ascii "a"; line = 65535; byte = 65535; column = 383 })

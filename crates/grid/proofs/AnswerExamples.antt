@@ -143,7 +143,7 @@ pub layout-colons-of-line-0 : layoutAfterwards space (sheet (5 ∷ 5 ∷ 5 ∷ [
 unfolding reading
 layout-colons-of-line-0 = refl
 
--- ---- one cell, and room or working space for less
+-- ---- one cell, and room for less: nothing is written
 
 abbrev small : FlatDrawing
 small = sheet (3 ∷ 3 ∷ 3 ∷ []) (0 ∷ 0 ∷ 0 ∷ []) (ascii "+-+|a|+-+")
@@ -151,10 +151,6 @@ small = sheet (3 ∷ 3 ∷ 3 ∷ []) (0 ∷ 0 ∷ 0 ∷ []) (ascii "+-+|a|+-+")
 -- rows need three numbers
 abbrev fewRows : LayoutArrays
 fewRows = record { columns = replicate 3 9; rows = replicate 2 9; cells = replicate 5 9; ranges = replicate 3 9 }
-
-pub layout-rows-too-short : layoutAnswer space small fewRows ≡ refuse 12 0
-unfolding reading
-layout-rows-too-short = refl
 
 pub layout-refused-writes-nothing : layoutAfterwards space small fewRows ≡ fewRows
 unfolding reading
@@ -164,38 +160,13 @@ layout-refused-writes-nothing = refl
 abbrev fewLengths : TableArrays
 fewLengths = record { columns = replicate 3 9; sections = replicate 1 9; cells = replicate 5 9; lengths = []; text = replicate 2 9 }
 
-pub table-lengths-too-short : tableAnswer space tableSpace small fewLengths ≡ refuse 12 0
-unfolding reading
-table-lengths-too-short = refl
-
 pub table-refused-writes-nothing : tableAfterwards space tableSpace small fewLengths ≡ fewLengths
 unfolding reading
 table-refused-writes-nothing = refl
 
-pub cell-cuts-too-short : cellAnswer space 128 small 0 (replicate 3 9) ≡ refuse 12 0
-unfolding reading
-cell-cuts-too-short = refl
-
 pub cell-refused-writes-nothing : cellAfterwards space 128 small 0 (replicate 3 9) ≡ replicate 3 9
 unfolding reading
 cell-refused-writes-nothing = refl
-
-pub layout-offsets-too-short : layoutAnswer (record { glyphs = 16384; offsets = 16383; down = 16384; right = 16384; rects = 4096 }) small lentLayout
-    ≡ refuse 13 0
-unfolding reading
-layout-offsets-too-short = refl
-
-pub table-starts-too-short : tableAnswer space (record { starts = 127; counts = 1024 }) small lentTable ≡ refuse 13 0
-unfolding reading
-table-starts-too-short = refl
-
-pub table-counts-too-short : tableAnswer space (record { starts = 128; counts = 1023 }) small lentTable ≡ refuse 13 0
-unfolding reading
-table-counts-too-short = refl
-
-pub cell-starts-too-short : cellAnswer space 127 small 0 (replicate 4 9) ≡ refuse 13 0
-unfolding reading
-cell-starts-too-short = refl
 
 -- ---- refusals of a drawing, each before the next
 

@@ -1,17 +1,15 @@
--- Computed examples of the definitions of this crate, at their edges. Expected values were worked out by hand from document 01.
+-- Computed examples of drawing and of the grid rules, at their edges. Expected values were worked out by hand from document 01.
 use mathlib.Core.Path.{_≡_, refl}
 use mathlib.Core.Bool.{true, false}
-use mathlib.Core.List.{List, [], _∷_, _++_, flatMap}
+use mathlib.Core.List.{List, [], _∷_, _++_, map, flatMap}
 use Prim.Native.Nat.{ℕ}
-use lib.ListN.{replicate}
+use lib.ListN.{length, replicate}
+use Rattle.seq.specs.Lists.{upTo}
 use Rattle.seq.specs.Ascii.{ascii}
-use Rattle.seq.specs.Decimal.{decimal}
-use Rattle.grid.specs.Answer.{Answer, accept, refuse, andThen}
-use Rattle.grid.specs.Values.{Line, GridTableColumn, TableCell, Table}
+use Rattle.grid.specs.Answer.{Answer, accept, andThen}
+use Rattle.grid.specs.Values.{TableCell, Table}
 use Rattle.grid.specs.Read.{readTable}
 use Rattle.grid.specs.Same.{normal}
-use Rattle.grid.specs.Flat.{tableSizes, tableArrays}
-use Rattle.grid.specs.declared.TableAlignment.{TableAlignment}
 use Rattle.grid.specs.declared.TableAlignment.the-variants.{None, Left, Right, Center}
 use Rattle.grid.specs.declared.GridTableSection.{GridTableSection}
 use Rattle.grid.specs.declared.GridTableSection.the-variants.{Head, Body, Foot}
@@ -20,43 +18,65 @@ use Rattle.drawing.specs.GridRules.{keepsRules, inOrder, allInside, cove
 use Rattle.drawing.specs.Sizes.{widths, heights}
 use Rattle.drawing.specs.Plain.{drawn}
 use Rattle.drawing.specs.Redraw.{redraw}
-use Rattle.drawing.specs.RedrawCall.{DrawingArrays, redrawSpace, redrawAnswer, redrawAfterwards}
+use Rattle.drawing.proofs.ExamplesTables.{shown, col, cell, text1, mark, marks, declared, alone, under, parts}
 
--- a drawing's lines, each ended by a line feed; a refusal's number and place
-abbrev shown : Answer (List Line) → List ℕ
-shown (accept lines) = flatMap (λ (line : Line). line .text ++ ascii "\n") lines
-shown (refuse number place) = ascii "refused " ++ decimal number ++ ascii " " ++ decimal place
+-- Sizes
 
-abbrev col : TableAlignment → ℕ → GridTableColumn
-col a w = record { alignment = a; width = w }
+least-widths : widths (under Left None []) ≡ 3 ∷ 1 ∷ []
+unfolding redrawing
+least-widths = refl
 
-abbrev cell : ℕ → ℕ → ℕ → ℕ → List (List ℕ) → TableCell
-cell r k across down lines = record { row = r; column = k; colspan = across; rowspan = down; lines = lines }
-
-abbrev text1 : List ℕ → List (List ℕ)
-text1 line = line ∷ []
-
--- one cell
-abbrev alone : TableAlignment → GridTableSection → List (List ℕ) → Table
-alone a s lines = record { columns = col a 0 ∷ []; sections = s ∷ []; cells = cell 0 0 1 1 lines ∷ [] }
-
--- two columns under one spanning top cell, all Body
-abbrev under : TableAlignment → TableAlignment → List (List ℕ) → Table
-under a b top =
-    record {
-      columns = col a 0 ∷ col b 0 ∷ [];
+-- a column in which no cell stands alone is 1 wide all the same
+least-width-of-none : widths
+    (record {
+      columns = col None 0 ∷ col None 0 ∷ col None 0 ∷ [];
       sections = Body ∷ Body ∷ [];
-      cells = cell 0 0 2 1 top ∷ cell 1 0 1 1 [] ∷ cell 1 1 1 1 [] ∷ [];
+      cells = cell 0 0 2 1 [] ∷ cell 0 2 1 1 [] ∷ cell 1 0 1 1 [] ∷ cell 1 1 2 1 [] ∷ [];
+    }) ≡ 1 ∷ 1 ∷ 1 ∷ []
+unfolding redrawing
+least-width-of-none = refl
+
+lack-goes-to-the-last : widths (under None None (text1 (ascii "abcdef"))) ≡ 1 ∷ 5 ∷ []
+unfolding redrawing
+lack-goes-to-the-last = refl
+
+-- of the cell's own columns, 1 and 2, and the border between them
+lack-in-the-middle : widths
+    (record {
+      columns = replicate 4 (col None 0);
+      sections = Body ∷ Body ∷ [];
+      cells = cell 0 0 1 1 (text1 (ascii "xy")) ∷ cell 0 1 2 1 (text1 (ascii "abcdef")) ∷ cell 0 3 1 1 (text1 (ascii "ijklmnop"))
+          ∷ cell 1 0 1 1 [] ∷ cell 1 1 1 1 [] ∷ cell 1 2 1 1 [] ∷ cell 1 3 1 1 [] ∷ [];
+    }) ≡ 3 ∷ 1 ∷ 5 ∷ 9 ∷ []
+unfolding redrawing
+lack-in-the-middle = refl
+
+-- cells of one column are taken before those of several, wherever they stand: the top cell lacks nothing by then
+single-widths-first : widths
+    (record {
+      columns = col None 0 ∷ col None 0 ∷ [];
+      sections = Body ∷ Body ∷ [];
+      cells = cell 0 0 2 1 (text1 (ascii "abcdef")) ∷ cell 1 0 1 1 (text1 (ascii "uvwxyz")) ∷ cell 1 1 1 1 [] ∷ [];
+    }) ≡ 7 ∷ 1 ∷ []
+unfolding redrawing
+single-widths-first = refl
+
+-- a cell of four lines over two rows, beside a cell of these lines
+abbrev tall : List (List ℕ) → Table
+tall beside =
+    record {
+      columns = col None 0 ∷ col None 0 ∷ [];
+      sections = Body ∷ Body ∷ [];
+      cells = cell 0 0 1 2 (ascii "a" ∷ ascii "b" ∷ ascii "c" ∷ ascii "d" ∷ []) ∷ cell 0 1 1 1 beside ∷ cell 1 1 1 1 [] ∷ [];
     }
 
--- a Head, a Body and a Foot row
-abbrev parts : GridTableSection → GridTableSection → GridTableSection → Table
-parts a b c =
-    record {
-      columns = col Center 4 ∷ col None 1 ∷ [];
-      sections = a ∷ b ∷ c ∷ [];
-      cells = cell 0 0 1 1 (text1 (ascii "x")) ∷ cell 0 1 1 1 [] ∷ cell 1 0 2 1 [] ∷ cell 2 0 1 1 [] ∷ cell 2 1 1 1 (text1 (ascii "y")) ∷ [];
-    }
+lack-of-height : heights (tall []) ≡ 1 ∷ 2 ∷ []
+unfolding redrawing
+lack-of-height = refl
+
+single-heights-first : heights (tall (ascii "u" ∷ ascii "v" ∷ ascii "w" ∷ ascii "x" ∷ [])) ≡ 4 ∷ 1 ∷ []
+unfolding redrawing
+single-heights-first = refl
 
 -- Drawing
 
@@ -64,22 +84,33 @@ three-sections : shown (redraw 0 (parts Head Body Foot)) ≡ ascii "+----+--+\n|
 unfolding redrawing
 three-sections = refl
 
-least-widths : widths (under Left None []) ≡ 3 ∷ 1 ∷ []
-unfolding redrawing
-least-widths = refl
+-- one column, an empty cell in each row
+abbrev stack : List GridTableSection → Table
+stack sections = record { columns = col None 1 ∷ []; sections = sections; cells = map (λ r. cell r 0 1 1 []) (upTo (length sections)) }
 
-lack-goes-to-the-last : widths (under None None (text1 (ascii "abcdef"))) ≡ 1 ∷ 5 ∷ []
+rules-between-sections : map (λ sections. shown (redraw 0 (stack sections))) ((Head ∷ Body ∷ []) ∷ (Head ∷ Head ∷ Foot ∷ []) ∷ (Head ∷ Body ∷ Foot ∷ Foot ∷ []) ∷ [])
+    ≡ ascii "+-+\n| |\n+=+\n| |\n+-+\n" ∷ ascii "+-+\n| |\n+-+\n| |\n+=+\n| |\n+=+\n" ∷ ascii "+-+\n| |\n+=+\n| |\n+=+\n| |\n+-+\n| |\n+=+\n" ∷ []
 unfolding redrawing
-lack-goes-to-the-last = refl
+rules-between-sections = refl
 
-lack-of-height : heights
-    (record {
-      columns = col None 0 ∷ col None 0 ∷ [];
-      sections = Body ∷ Body ∷ [];
-      cells = cell 0 0 1 2 (ascii "a" ∷ ascii "b" ∷ ascii "c" ∷ ascii "d" ∷ []) ∷ cell 0 1 1 1 [] ∷ cell 1 1 1 1 [] ∷ [];
-    }) ≡ 1 ∷ 2 ∷ []
+each-alignment : map (λ a. shown (redraw 0 (alone a Body []))) (None ∷ Left ∷ Right ∷ Center ∷ [])
+    ≡ ascii "+-+\n| |\n+-+\n" ∷ ascii "+:--+\n|   |\n+---+\n" ∷ ascii "+--:+\n|   |\n+---+\n" ∷ ascii "+:-:+\n|   |\n+---+\n" ∷ []
 unfolding redrawing
-lack-of-height = refl
+each-alignment = refl
+
+each-alignment-of-a-head : map (λ a. shown (redraw 0 (declared 4 a Head []))) (None ∷ Left ∷ Right ∷ Center ∷ [])
+    ≡ ascii "+----+\n|    |\n+====+\n" ∷ ascii "+----+\n|    |\n+:===+\n" ∷ ascii "+----+\n|    |\n+===:+\n" ∷ ascii "+----+\n|    |\n+:==:+\n" ∷ []
+unfolding redrawing
+each-alignment-of-a-head = refl
+
+colons-of-later-columns : shown (redraw 0 (record { columns = col None 3 ∷ col Left 4 ∷ col Center 5 ∷ []; sections = Body ∷ []; cells = cell 0 0 1 1 [] ∷ cell 0 1 1 1 [] ∷ cell 0 2 1 1 [] ∷ [] }))
+    ≡ ascii "+---+:---+:---:+\n|   |    |     |\n+---+----+-----+\n"
+unfolding redrawing
+colons-of-later-columns = refl
+
+right-colon-at-the-segments-end : shown (redraw 0 (under Right None [])) ≡ ascii "+----:+\n|     |\n+---+-+\n|   | |\n+---+-+\n"
+unfolding redrawing
+right-colon-at-the-segments-end = refl
 
 tab-counts-four : shown (redraw 0 (alone None Body (text1 (ascii "a\tb")))) ≡ ascii "+-------+\n| a\tb   |\n+-------+\n"
 unfolding redrawing
@@ -89,7 +120,13 @@ tab-at-another-origin : shown (redraw 1 (alone None Body (text1 (ascii "a\tb")))
 unfolding redrawing
 tab-at-another-origin = refl
 
-mark-at-a-start : shown (redraw 0 (alone None Body (text1 (0xcc ∷ 0x81 ∷ ascii "a")))) ≡ ascii "+--+\n| " ++ 0xcc ∷ 0x81 ∷ ascii "a|\n+--+\n"
+-- its text starts at column 4
+tab-in-the-second-column : shown (redraw 0 (record { columns = col None 1 ∷ col None 1 ∷ []; sections = Body ∷ []; cells = cell 0 0 1 1 [] ∷ cell 0 1 1 1 (text1 (ascii "a\tb")) ∷ [] }))
+    ≡ ascii "+-+-------+\n| | a\tb |\n+-+-------+\n"
+unfolding redrawing
+tab-in-the-second-column = refl
+
+mark-at-a-start : shown (redraw 0 (alone None Body (text1 (mark ++ ascii "a")))) ≡ ascii "+--+\n| " ++ mark ++ ascii "a|\n+--+\n"
 unfolding redrawing
 mark-at-a-start = refl
 
@@ -97,76 +134,19 @@ trimmed-and-dropped : shown (redraw 0 (alone None Body (ascii "a \t" ∷ ascii "
 unfolding redrawing
 trimmed-and-dropped = refl
 
--- Refusals, each before the next
-
-no-cells : redraw 0 (record { columns = []; sections = replicate 200 Body; cells = [] }) ≡ refuse 1 0
+drawn-128-wide : shown (redraw 0 (declared 126 None Body []))
+    ≡ ascii "+" ++ replicate 126 0x2d ++ ascii "+\n|" ++ replicate 126 0x20 ++ ascii "|\n+" ++ replicate 126 0x2d ++ ascii "+\n"
 unfolding redrawing
-no-cells = refl
+drawn-128-wide = refl
 
-lines-as-given : redraw 256 (alone None Body (ascii "\r" ∷ [])) ≡ refuse 2 0
+-- 126 lines in one cell
+drawn-128-lines : shown (redraw 0 (alone None Body (replicate 126 (ascii "a")))) ≡ ascii "+--+\n" ++ flatMap (λ line. line) (replicate 126 (ascii "| a|\n")) ++ ascii "+--+\n"
 unfolding redrawing
-lines-as-given = refl
-
-cell-lines-past-their-limit : redraw 0 (alone None Body (replicate 129 [])) ≡ refuse 2 0
-unfolding redrawing
-cell-lines-past-their-limit = refl
-
-dropped-lines-count : redraw 0 (alone None Foot (ascii "a" ∷ [] ∷ ascii "\r" ∷ [])) ≡ refuse 3 2
-unfolding redrawing
-dropped-lines-count = refl
-
-rules-before-foot : redraw 0 (parts Foot Body Foot) ≡ refuse 8 0
-unfolding redrawing
-rules-before-foot = refl
-
-foot-alone : redraw 0 (alone Left Foot []) ≡ refuse 9 0
-unfolding redrawing
-foot-alone = refl
-
-no-corner-at-the-left : redraw 0 (under None Left (text1 (ascii "a"))) ≡ refuse 10 1
-unfolding redrawing
-no-corner-at-the-left = refl
-
-corner-before-size : redraw 0 (under None Right (text1 (replicate 200 0x61))) ≡ refuse 10 1
-unfolding redrawing
-corner-before-size = refl
-
-right-colon-at-the-segments-end : shown (redraw 0 (under Right None [])) ≡ ascii "+----:+\n|     |\n+---+-+\n|   | |\n+---+-+\n"
-unfolding redrawing
-right-colon-at-the-segments-end = refl
-
-drawn-too-wide : redraw 0 (alone None Body (text1 (replicate 127 0x61))) ≡ refuse 2 0
-unfolding redrawing
-drawn-too-wide = refl
-
--- 254 marks
-abbrev marks : List ℕ
-marks = flatMap (λ (b : ℕ). 0xcc ∷ 0x81 ∷ []) (replicate 254 0)
+drawn-128-lines = refl
 
 drawn-512-bytes : shown (redraw 0 (alone None Body (text1 (ascii "x" ++ marks)))) ≡ ascii "+--+\n| x" ++ marks ++ ascii "|\n+--+\n"
 unfolding redrawing
 drawn-512-bytes = refl
-
-drawn-513-bytes : redraw 0 (alone None Body (text1 (ascii "xx" ++ marks))) ≡ refuse 2 0
-unfolding redrawing
-drawn-513-bytes = refl
-
--- a cell over both columns between rows of two
-abbrev middle : List (List ℕ) → Table
-middle lines =
-    record {
-      columns = col None 1 ∷ col None 1 ∷ [];
-      sections = Body ∷ Body ∷ Body ∷ [];
-      cells = cell 0 0 1 1 [] ∷ cell 0 1 1 1 [] ∷ cell 1 0 2 1 lines ∷ cell 2 0 1 1 [] ∷ cell 2 1 1 1 [] ∷ [];
-    }
-
-splits-at-the-corner : redraw 0 (middle (text1 (ascii "|" ++ 0xcc ∷ 0x81 ∷ ascii "a"))) ≡ refuse 11 2
-unfolding redrawing
-splits-at-the-corner = refl
-
-blank-line-keeps-it-whole : shown (redraw 0 (middle (ascii "|a" ∷ [] ∷ ascii "+" ∷ []))) ≡ ascii "+-+-+\n| | |\n+-+-+\n| |a|\n|   |\n| + |\n+-+-+\n| | |\n+-+-+\n"
-unfolding redrawing
-blank-line-keeps-it-whole = refl
 
 -- Reading back
 
@@ -183,8 +163,12 @@ tab-reads-back = refl
 
 -- Grid rules
 
+-- two columns and two rows
+abbrev rows : GridTableSection → GridTableSection → List TableCell → Table
+rows a b cells = record { columns = col None 1 ∷ col None 1 ∷ []; sections = a ∷ b ∷ []; cells = cells }
+
 abbrev two : List TableCell → Table
-two cells = record { columns = col None 1 ∷ col None 1 ∷ []; sections = Head ∷ Body ∷ []; cells = cells }
+two cells = rows Head Body cells
 
 out-of-order : inOrder (two (cell 0 1 1 2 [] ∷ cell 0 0 1 2 [] ∷ [])) ≡ false
 unfolding redrawing
@@ -202,7 +186,7 @@ no-start : allStart (two (cell 0 0 2 1 [] ∷ cell 1 0 2 1 [] ∷ [])) ≡ false
 unfolding redrawing
 no-start = refl
 
-sections-turn-back : sectionsRun (parts Head Foot Body) ≡ false
+sections-turn-back : map (λ t. sectionsRun t) (parts Head Foot Body ∷ parts Head Foot Head ∷ parts Body Head Head ∷ []) ≡ false ∷ false ∷ false ∷ []
 unfolding redrawing
 sections-turn-back = refl
 
@@ -210,31 +194,22 @@ crosses-a-section : noneCrosses (two (cell 0 0 1 2 [] ∷ cell 0 1 1 1 [] ∷ ce
 unfolding redrawing
 crosses-a-section = refl
 
+-- each table breaks one rule alone: the order; a cell past the last column; past the last row; a colspan of 0; a rowspan of 0; a square
+-- held twice; a square of no cell; a column without a start; a row without a start; Head after Body; a cell over two sections
+each-rule-alone : map (λ t. keepsRules t)
+    (rows Body Body (cell 0 1 1 1 [] ∷ cell 0 0 1 1 [] ∷ cell 1 0 1 1 [] ∷ cell 1 1 1 1 [] ∷ [])
+    ∷ rows Body Body (cell 0 0 1 1 [] ∷ cell 0 1 1 1 [] ∷ cell 1 0 1 1 [] ∷ cell 1 1 2 1 [] ∷ [])
+    ∷ rows Body Body (cell 0 0 1 1 [] ∷ cell 0 1 1 1 [] ∷ cell 1 0 1 1 [] ∷ cell 1 1 1 2 [] ∷ [])
+    ∷ rows Body Body (cell 0 0 2 1 [] ∷ cell 0 1 0 1 [] ∷ cell 1 0 1 1 [] ∷ cell 1 1 1 1 [] ∷ [])
+    ∷ rows Body Body (cell 0 0 2 1 [] ∷ cell 0 1 1 0 [] ∷ cell 1 0 1 1 [] ∷ cell 1 1 1 1 [] ∷ [])
+    ∷ rows Body Body (cell 0 0 1 1 [] ∷ cell 0 1 1 1 [] ∷ cell 1 0 2 1 [] ∷ cell 1 1 1 1 [] ∷ [])
+    ∷ rows Body Body (cell 0 0 1 1 [] ∷ cell 0 1 1 1 [] ∷ cell 1 0 1 1 [] ∷ [])
+    ∷ rows Body Body (cell 0 0 2 1 [] ∷ cell 1 0 2 1 [] ∷ []) ∷ rows Body Body (cell 0 0 1 2 [] ∷ cell 0 1 1 2 [] ∷ [])
+    ∷ rows Body Head (cell 0 0 1 1 [] ∷ cell 0 1 1 1 [] ∷ cell 1 0 1 1 [] ∷ cell 1 1 1 1 [] ∷ [])
+    ∷ rows Head Body (cell 0 0 1 2 [] ∷ cell 0 1 1 1 [] ∷ cell 1 1 1 1 [] ∷ []) ∷ []) ≡ replicate 11 false
+unfolding redrawing
+each-rule-alone = refl
+
 keeps-all : keepsRules (two (cell 0 0 2 1 [] ∷ cell 1 0 1 1 [] ∷ cell 1 1 1 1 [] ∷ [])) ≡ true
 unfolding redrawing
 keeps-all = refl
-
--- The arrays of a call
-
-abbrev lent : List ℕ → DrawingArrays
-lent columns = record { lengths = 9 ∷ 9 ∷ 9 ∷ []; columns = columns; text = ascii "????????????????" }
-
-abbrev given : Table
-given = alone None Body (text1 (ascii "ab"))
-
-drawing-written : redrawAfterwards redrawSpace 7 (tableSizes given) (tableArrays given) (lent (9 ∷ 9 ∷ 9 ∷ 9 ∷ []))
-    ≡ record { lengths = 5 ∷ 5 ∷ 5 ∷ []; columns = 7 ∷ 7 ∷ 7 ∷ 9 ∷ []; text = ascii "+---+| ab|+---+?" }
-unfolding redrawing
-drawing-written = refl
-
-sizes-drawn : redrawAnswer redrawSpace 7 (tableSizes given) (tableArrays given) (lent (9 ∷ 9 ∷ 9 ∷ [])) ≡ accept (record { lines = 3; bytes = 15 })
-unfolding redrawing
-sizes-drawn = refl
-
-columns-too-short : redrawAnswer redrawSpace 7 (tableSizes given) (tableArrays given) (lent (9 ∷ 9 ∷ [])) ≡ refuse 12 0
-unfolding redrawing
-columns-too-short = refl
-
-refused-redraw-writes-nothing : redrawAfterwards redrawSpace 7 (tableSizes given) (tableArrays given) (lent (9 ∷ 9 ∷ [])) ≡ lent (9 ∷ 9 ∷ [])
-unfolding redrawing
-refused-redraw-writes-nothing = refl

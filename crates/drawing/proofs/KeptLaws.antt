@@ -27,7 +27,7 @@ lies-stays t c s =
     and-intro (and-intro (and-intro (lt-ltb 0 (c .colspan) (s .broad)) (lt-ltb 0 (c .rowspan) (s .tall))) (le-leb (c .column + c .colspan) (length (t .columns)) (s .near)))
     (le-leb (c .row + c .rowspan) (length (t .sections)) (s .low))
 
-stays-lies : (t : Table) (c : TableCell) → staysInside t c ≡ true → Lies t c
+pub stays-lies : (t : Table) (c : TableCell) → staysInside t c ≡ true → Lies t c
 stays-lies t c h =
     let p = ltb 0 (c .colspan) in
     let q = ltb 0 (c .rowspan) in

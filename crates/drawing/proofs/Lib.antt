@@ -1,8 +1,7 @@
--- Computed examples of the definitions.
+-- Computed examples: sizes and drawing, refusals, with the tables that they share.
+pub mod ExamplesTables
 pub mod Examples
--- A table that is read keeps redraw's rules and limits.
-pub mod ReadRules
-pub mod ReadLimits
+pub mod ExamplesRefusals
 -- Sizes: columns and their measure, widths and heights, where borders stand.
 pub mod MeasureLaws
 pub mod FitLaws
@@ -11,6 +10,12 @@ pub mod OffsetLaws
 pub mod LimitLaws
 pub mod KeptLaws
 pub mod SectionOrder
+-- A table read keeps the grid rules and the limits.
+pub mod ReadRules
+pub mod ReadLimits
+-- Main theorem: under the grid rules two tables are the same exactly when they look the same.
+pub mod CellPlaces
+pub mod SameLaws
 -- A canvas: boxes that hold each square once, a drawn line from border to border, which lines are rules.
 pub mod BoxLaws
 pub mod RowLaws

@@ -104,9 +104,9 @@ pub fn cell_text<'a>(
 ) -> &'a [u8]
     ensures { λ r.
         let given = lineOf (now (text .entry)) column in
-        ⌜ (now r ≡ cutText given line («table_byte» .0) (range start end) (left .0))
-        × (r .ptr .0 ≡ text .entry .ptr .0)
-        × (r .ptr .1 ≡ text .entry .ptr .1 + cutStart given line («table_byte» .0) (range start end) (left .0)) ⌝ }
+        ⌜ (r .ptr .0 ≡ text .entry .ptr .0)
+        × (r .ptr .1 ≡ text .entry .ptr .1 + cutStart given line («table_byte» .0) (range start end) (left .0))
+        × (now r ≡ cutText given line («table_byte» .0) (range start end) (left .0)) ⌝ }
 {
     match cell_fragment(text, column, line, table_byte, start, end, left) {
         Cut::Accepted {

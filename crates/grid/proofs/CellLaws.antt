@@ -1,5 +1,4 @@
 -- The lines of a cell of a table that is read: cut, one from each inner line, with empty last ones dropped.
--- Assumes nothing.
 use Prim.Native.Nat.{ℕ, zero, suc, _+_, _-_, _≤_, _<_}
 use mathlib.Core.Path.{_≡_, refl, sym, ap, subst, _∙_}
 use mathlib.Core.Bool.{Bool, true, false, cond}

@@ -1,5 +1,4 @@
 -- The texts of all cells of a drawing that is read: how many lines, how many bytes, and that each is well formed.
--- Assumes nothing.
 use Prim.Native.Nat.{ℕ, suc, _+_, _-_, _*_, _≤_, _<_}
 use mathlib.Core.Path.{_≡_, refl, ap, _∙_}
 use mathlib.Core.Bool.{Bool, true, false, _&&_, _||_, cond}

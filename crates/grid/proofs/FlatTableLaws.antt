@@ -1,5 +1,4 @@
 -- A table's arrays are free of contradictions, and taken apart they are the table again.
--- Assumes nothing.
 use Prim.Native.Nat.{ℕ, _*_}
 use mathlib.Core.Path.{_≡_, refl, sym, ap, ap₂, _∙_}
 use mathlib.Core.Bool.{true, false, not}

@@ -1,5 +1,4 @@
 -- Tracing looks at a grid's width, height and glyphs, and at nothing else.
--- Assumes nothing.
 use Prim.Native.Nat.{ℕ, zero, suc}
 use mathlib.Core.Path.{_≡_}
 use mathlib.Core.List.{List}

@@ -1,5 +1,4 @@
--- The rectangles rebuilt from the arrays of an accepted layout call are the traced ones.
--- Assumes nothing.
+-- The rectangles rebuilt from the arrays of an accepted layout call are the traced ones: others cite `layout-rebuilt`.
 use Prim.Native.Nat.{ℕ, zero, suc, _+_, _-_, _*_, _≤_, _<_}
 use mathlib.Core.Path.{_≡_, refl, sym, ap, ap₂, _∙_}
 use mathlib.Core.Bool.{_||_}
@@ -12,7 +11,7 @@ use Rattle.seq.specs.Lists.{range, sum}
 use Rattle.seq.proofs.Positions.{getD-map}
 use Rattle.seq.proofs.Sums.{sum-distances}
 use Rattle.seq.proofs.Rising.{Position, position, position-lt, rising-getD}
-use Rattle.grid.specs.Answer.{Answer, accept, refuseIf, andThen}
+use Rattle.grid.specs.Answer.{accept}
 use Rattle.grid.specs.Values.{Line, Rect, Row, GridTableColumn, Layout}
 use Rattle.grid.specs.Slots.{Grid, gridOf}
 use Rattle.grid.specs.Layout.{columnLines, rowLines, indexOf, Between, between, columnsRead, rowsRead, cellRead, layoutOf, sectionAt, alignmentAt}
@@ -24,7 +23,7 @@ use Rattle.grid.specs.Flat.{FlatDrawing, drawingContradicts, linesOf, co
 use Rattle.grid.specs.LayoutCall.{LayoutSpace, LayoutSizes, LayoutArrays, spaceShort, rowNumbers, cellNumbers, layoutArrays, layoutSizes, layoutShort, layoutOver, layoutAccepts, layoutAnswer, layoutAfterwards}
 use Rattle.grid.specs.Rebuilt.{columnAcross, rebuiltCell, rebuiltFrom, rebuilt}
 use Rattle.grid.proofs.LayoutLaws.{length-between, columnLines-rise, rowLines-rise, left-line, right-line, top-line, bottom-line, between-at}
-use Rattle.grid.proofs.ReadLaws.{passed-if, passed-then, passed, read-cover, layout-read}
+use Rattle.grid.proofs.ReadLaws.{passed-then, afterwards-accepted, handedOut-read, passed, read-cover, layout-read}
 
 -- number i of the entries of element n, k entries each, with more written after all of them
 getD-entries : {A : Type 0} (f : A → List ℕ) (k : ℕ) → ((a : A) → length (f a) ≡ k) → (l : List A) (rest : List ℕ) (n i : ℕ) (d : A) → n < length l → i < k
@@ -144,18 +143,13 @@ module _ (lines : List Line) (g : Grid) (rs : List Rect) (out : LayoutArrays) wh
 
 -- ---- the call
 module _ (w : LayoutSpace) (d : FlatDrawing) (out : LayoutArrays) where
-  abbrev twelve : Layout → Answer Layout
-  twelve l = refuseIf (layoutShort out (layoutArrays l)) 12 (accept l)
-
   accepts-read : (l : Layout) → layoutAccepts w d out ≡ accept l → readLayout (linesOf d) ≡ accept l
   unfolding layoutAccepts
-  accepts-read l e =
-      let (k, read, room) = passed-then (readLayout (linesOf d)) twelve l (passed-if (drawingContradicts d || spaceShort w) 13 (andThen (readLayout (linesOf d)) twelve) l e .1) in
-      read ∙ passed-if (layoutShort out (layoutArrays k)) 12 (accept k) l room .1
+  accepts-read l e = handedOut-read (drawingContradicts d || spaceShort w) (readLayout (linesOf d)) (λ l. layoutShort out (layoutArrays l)) l e
 
   accepts-afterwards : (l : Layout) → layoutAccepts w d out ≡ accept l → layoutAfterwards w d out ≡ layoutOver (layoutArrays l) out
   unfolding layoutAfterwards
-  accepts-afterwards l e = rw e
+  accepts-afterwards l e = afterwards-accepted (layoutAccepts w d out) (λ l. layoutOver (layoutArrays l) out) out l e
 
   answer-accepts : (sizes : LayoutSizes) → layoutAnswer w d out ≡ accept sizes → (l : Layout) × (layoutAccepts w d out ≡ accept l) × (length (l .cells) ≡ sizes .cells)
   unfolding layoutAnswer layoutSizes

@@ -1,5 +1,4 @@
 -- Sections change only at separators, and further down they only go on from Head over Body to Foot.
--- Assumes nothing.
 use Prim.Native.Nat.{ℕ, _-_, _≤_, _<_}
 use mathlib.Core.Path.{_≡_, refl, sym, _∙_}
 use mathlib.Core.Bool.{Bool, true, false, cond}

@@ -1,5 +1,4 @@
 -- A separator is a row line: it cuts through no rectangle of the cover.
--- Assumes nothing.
 use Prim.Native.Nat.{ℕ, _+_, _-_, _≤_, _<_}
 use mathlib.Core.Path.{_≡_, refl, _∙_, subst}
 use mathlib.Core.Bool.{Bool, true, false, not, _||_, cond}

@@ -1,5 +1,4 @@
 -- Laws of the skyline: its leftmost lowest column, and what a placed rectangle raises.
--- Assumes nothing.
 use Prim.Native.Nat.{ℕ, _+_, _-_, _≤_, _<_}
 use mathlib.Core.Path.{_≡_, refl, sym, ap, _∙_}
 use mathlib.Core.Bool.{Bool, true, false, _&&_}

@@ -1,5 +1,4 @@
 -- Laws of the lines and the rows of slots of a drawing that is given as arrays.
--- Assumes nothing.
 use Prim.Native.Nat.{ℕ, zero, suc, _<_}
 use mathlib.Core.Path.{_≡_, refl, ap, _∙_}
 use mathlib.Core.Bool.{true, false, not, _||_}

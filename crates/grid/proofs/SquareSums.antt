@@ -1,5 +1,4 @@
 -- Over the rectangles of a cover every unit square of the grid is counted once.
--- Assumes nothing.
 use Prim.Native.Nat.{ℕ, _-_}
 use mathlib.Core.Path.{_≡_, refl, sym, _∙_}
 use mathlib.Core.Bool.{Bool, true, false, _&&_, cond}

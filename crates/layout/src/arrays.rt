@@ -1,8 +1,8 @@
 // The four arrays of a layout, written from what tracing left.
 use crate::cell_entries::write_cells;
-use crate::line_entries::write_columns;
-use crate::line_entries::write_rows;
+use crate::column_entries::write_columns;
 use crate::range_entries::write_ranges;
+use crate::row_entries::write_rows;
 use representation::Bounds;
 use representation::Parts;
 ghost use Prim.Native.Nat.{ℕ, _*_, _-_, _≤_, _<_};

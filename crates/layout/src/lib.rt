@@ -11,8 +11,9 @@
 pub mod arrays;
 pub mod bounds;
 pub mod cell_entries;
-pub mod line_entries;
+pub mod column_entries;
 pub mod range_entries;
+pub mod row_entries;
 pub mod sections;
 pub mod sizes;
 

@@ -10,7 +10,7 @@ fn is_blank(b: u8) -> bool
 
 // The part of the line from its start on that is left.
 pub fn trim_end(text: &[u8]) -> &[u8]
-    ensures { λ r. ⌜ (now r ≡ trimEnd (now (text .entry))) × (r .ptr ≡ text .entry .ptr) ⌝ }
+    ensures { λ r. ⌜ (r .ptr ≡ text .entry .ptr) × (now r ≡ trimEnd (now (text .entry))) ⌝ }
 {
     let mut n = text.len();
     while 0 < n {
@@ -19,5 +19,5 @@ pub fn trim_end(text: &[u8]) -> &[u8]
         }
         n -= 1;
     }
-    &text[..0]
+    &text[0..0]
 }

@@ -1,7 +1,6 @@
--- Computed examples of the definitions of this crate, at their edges. Expected values were worked out by hand from document 01.
+-- Computed examples of positions, at their edges. Expected values were worked out by hand from document 01.
 use mathlib.Core.Path.{_≡_, refl}
-use mathlib.Core.List.{List, [], _∷_}
-use mathlib.Core.Option.{none, some}
+use mathlib.Core.List.{List, [], _∷_, _++_}
 use Prim.Native.Nat.{ℕ}
 use lib.ListN.{replicate}
 use Rattle.seq.specs.Ascii.{ascii}
@@ -9,144 +8,127 @@ use Rattle.grid.specs.Answer.{accept, refuse}
 use Rattle.grid.specs.LayoutCall.{LayoutSpace}
 use Rattle.sourcepos.specs.Computing.{positions}
 use Rattle.sourcepos.specs.PositionsCall.{FlatPlaced, PositionArrays, positionsAnswer, positionsAfterwards, cellPositionAnswer}
-use Rattle.sourcepos.specs.LineEnds.{CellLineEnd, findEol}
-use Rattle.sourcepos.specs.LineEndCalls.{Register, addAnswer, addAfterwards, findAnswer, remapAnswer}
-
--- Positions
 
 abbrev space : LayoutSpace
 space = record { glyphs = 16384; offsets = 16384; down = 16384; right = 16384; rects = 4096 }
 
--- a row without inner lines above one of two cells, on lines 4 to 7, each two bytes in
+-- A row without inner lines above one of three cells
+
 abbrev given : List ℕ → FlatPlaced
 given tableBytes =
     record {
       drawing = record {
         lines = 4;
-        bytes = 23;
-        lengths = 5 ∷ 5 ∷ 8 ∷ 5 ∷ [];
+        bytes = 31;
+        lengths = 7 ∷ 7 ∷ 10 ∷ 7 ∷ [];
         columns = 2 ∷ 2 ∷ 2 ∷ 2 ∷ [];
-        text = ascii "+---++-+-+|a|b|   +-+-+";
+        text = ascii "+-----++-+-+-+|a|b|c|   +-+-+-+";
       };
       numbers = 4 ∷ 5 ∷ 6 ∷ 7 ∷ [];
       tableBytes = tableBytes;
     }
 
+abbrev bytes : List ℕ
+bytes = 20 ∷ 30 ∷ 40 ∷ 50 ∷ []
+
 abbrev lent : List ℕ → PositionArrays
 lent cells = record { rows = replicate 9 9; cells = cells }
 
-table-position : positionsAnswer space 128 (given (2 ∷ 2 ∷ 2 ∷ 2 ∷ [])) (lent (replicate 12 9))
-    ≡ accept (record { table = record { startLine = 4; startColumn = 3; endLine = 7; endColumn = 7 }; rows = 2; cells = 3 })
+table-position : positionsAnswer space 128 (given bytes) (lent (replicate 16 8))
+    ≡ accept (record { table = record { startLine = 4; startColumn = 21; endLine = 7; endColumn = 57 }; rows = 2; cells = 4 })
 unfolding positions
 table-position = refl
 
-rows-and-cells : positionsAfterwards space 128 (given (2 ∷ 2 ∷ 2 ∷ 2 ∷ [])) (lent (replicate 12 9))
+rows-and-cells : positionsAfterwards space 128 (given bytes) (lent (replicate 17 8))
     ≡ record {
-      rows = 4 ∷ 3 ∷ 4 ∷ 2 ∷ 6 ∷ 3 ∷ 6 ∷ 7 ∷ 9 ∷ [];
-      cells = 4 ∷ 3 ∷ 4 ∷ 2 ∷ 6 ∷ 4 ∷ 6 ∷ 4 ∷ 6 ∷ 6 ∷ 6 ∷ 6 ∷ [];
+      rows = 4 ∷ 21 ∷ 4 ∷ 20 ∷ 6 ∷ 41 ∷ 6 ∷ 47 ∷ 9 ∷ [];
+      cells = 4 ∷ 21 ∷ 4 ∷ 20 ∷ 6 ∷ 42 ∷ 6 ∷ 42 ∷ 6 ∷ 44 ∷ 6 ∷ 44 ∷ 6 ∷ 46 ∷ 6 ∷ 46 ∷ 8 ∷ [];
     }
 unfolding positions
 rows-and-cells = refl
 
-cells-too-short : positionsAnswer space 128 (given (2 ∷ 2 ∷ 2 ∷ 2 ∷ [])) (lent (replicate 11 9)) ≡ refuse 12 0
-unfolding positions
-cells-too-short = refl
-
-refused-positions-write-nothing : positionsAfterwards space 128 (given (2 ∷ 2 ∷ 2 ∷ 2 ∷ [])) (lent (replicate 11 9)) ≡ lent (replicate 11 9)
-unfolding positions
-refused-positions-write-nothing = refl
-
-byte-past-its-limit : cellPositionAnswer space 128 (given (2 ∷ 2 ∷ 65536 ∷ 2 ∷ [])) 0 ≡ refuse 2 0
-unfolding positions
-byte-past-its-limit = refl
-
-bytes-contradict : cellPositionAnswer space 128 (given (2 ∷ 2 ∷ 65536 ∷ [])) 0 ≡ refuse 13 0
-unfolding positions
-bytes-contradict = refl
-
-cell-past-the-end : cellPositionAnswer space 128 (given (2 ∷ 2 ∷ 2 ∷ 2 ∷ [])) 3 ≡ refuse 13 0
-unfolding positions
-cell-past-the-end = refl
-
-last-cell : cellPositionAnswer space 128 (given (2 ∷ 2 ∷ 2 ∷ 2 ∷ [])) 2
-    ≡ accept (record { startLine = 6; startColumn = 6; endLine = 6; endColumn = 6 })
+last-cell : cellPositionAnswer space 128 (given bytes) 3 ≡ accept (record { startLine = 6; startColumn = 46; endLine = 6; endColumn = 46 })
 unfolding positions
 last-cell = refl
 
--- Line ends
-
-abbrev at : ℕ → ℕ → ℕ → CellLineEnd
-at line start eol = record { line = line; start = start; eol = eol }
-
-those-that-reach-first : findEol (at 1 1 10 ∷ at 1 2 5 ∷ []) 1 7 ≡ some 10
+cell-past-the-end : cellPositionAnswer space 128 (given bytes) 4 ≡ refuse 13 0
 unfolding positions
-those-that-reach-first = refl
+cell-past-the-end = refl
 
-last-by-start : findEol (at 1 2 5 ∷ at 1 1 10 ∷ []) 1 4 ≡ some 5
+cells-too-short : positionsAnswer space 128 (given bytes) (lent (replicate 15 8)) ≡ refuse 12 0
 unfolding positions
-last-by-start = refl
+cells-too-short = refl
 
-then-by-eol : findEol (at 1 2 9 ∷ at 1 2 5 ∷ []) 1 4 ≡ some 9
+refused-positions-write-nothing : positionsAfterwards space 128 (given bytes) (lent (replicate 15 8)) ≡ lent (replicate 15 8)
 unfolding positions
-then-by-eol = refl
+refused-positions-write-nothing = refl
 
-both-ends-count : findEol (at 1 2 5 ∷ at 2 6 6 ∷ []) 1 5 ≡ some 5
+-- Lines of several lengths, with a tab, a mark and spaces at their ends, in cells of two lines
+
+abbrev placed : List ℕ → List ℕ → FlatPlaced
+placed numbers tableBytes =
+    record {
+      drawing = record {
+        lines = 6;
+        bytes = 50;
+        lengths = 7 ∷ 8 ∷ 11 ∷ 8 ∷ 8 ∷ 8 ∷ [];
+        columns = 0 ∷ 0 ∷ 0 ∷ 0 ∷ 0 ∷ 0 ∷ [];
+        text = ascii "+--+--+| a| b|\t|c" ++ 0xcc ∷ 0x81 ∷ ascii " |d |  +--+--+ |   e | +-----+ ";
+      };
+      numbers = numbers;
+      tableBytes = tableBytes;
+    }
+
+abbrev numbers : List ℕ
+numbers = 11 ∷ 13 ∷ 17 ∷ 19 ∷ 23 ∷ 29 ∷ []
+
+abbrev tableBytes : List ℕ
+tableBytes = 100 ∷ 200 ∷ 300 ∷ 400 ∷ 500 ∷ 600 ∷ []
+
+table-to-the-trimmed-end : positionsAnswer space 128 (placed numbers tableBytes) (record { rows = replicate 8 0; cells = replicate 12 0 })
+    ≡ accept (record { table = record { startLine = 11; startColumn = 101; endLine = 29; endColumn = 607 }; rows = 2; cells = 3 })
 unfolding positions
-both-ends-count = refl
+table-to-the-trimmed-end = refl
 
-none-reaches : findEol (at 1 2 5 ∷ at 2 6 6 ∷ []) 1 6 ≡ none
+-- each byte of the line that it belongs to
+bytes-of-first-and-last-lines : positionsAfterwards space 128 (placed numbers tableBytes) (record { rows = replicate 8 0; cells = replicate 12 0 })
+    ≡ record {
+      rows = 13 ∷ 201 ∷ 17 ∷ 309 ∷ 23 ∷ 501 ∷ 23 ∷ 507 ∷ [];
+      cells = 13 ∷ 202 ∷ 17 ∷ 305 ∷ 13 ∷ 205 ∷ 17 ∷ 308 ∷ 23 ∷ 502 ∷ 23 ∷ 506 ∷ [];
+    }
 unfolding positions
-none-reaches = refl
+bytes-of-first-and-last-lines = refl
 
--- a register that holds `count` ends, all on line 1 from 1 to 9
-abbrev register : ℕ → Register
-register count = record { count = count; lines = replicate 1024 1; starts = replicate 1024 1; eols = replicate 1024 9 }
-
-one-more : addAnswer (register 1023) (at 3 4 5) ≡ accept 1024
+rows-too-short : positionsAnswer space 128 (placed numbers tableBytes) (record { rows = replicate 7 0; cells = replicate 12 0 }) ≡ refuse 12 0
 unfolding positions
-one-more = refl
+rows-too-short = refl
 
-written-at-the-count : addAfterwards (register 0) (at 3 4 5)
-    ≡ record { count = 1; lines = 3 ∷ replicate 1023 1; starts = 4 ∷ replicate 1023 1; eols = 5 ∷ replicate 1023 9 }
-unfolding positions
-written-at-the-count = refl
+-- Refusals, each before the next
 
-register-full : addAnswer (register 1024) (at 3 4 5) ≡ refuse 14 0
+numbers-contradict : cellPositionAnswer space 128 (placed (11 ∷ []) tableBytes) 0 ∷ cellPositionAnswer space 127 (placed numbers tableBytes) 0 ∷ [] ≡ refuse 13 0 ∷ refuse 13 0 ∷ []
 unfolding positions
-register-full = refl
+numbers-contradict = refl
 
-full-register-kept : addAfterwards (register 1024) (at 3 4 5) ≡ register 1024
+-- no line, of one byte
+contradiction-before-no-lines : cellPositionAnswer space 128 (record { drawing = record { lines = 0; bytes = 1; lengths = []; columns = []; text = [] }; numbers = []; tableBytes = [] }) 0 ≡ refuse 13 0
 unfolding positions
-full-register-kept = refl
+contradiction-before-no-lines = refl
 
-number-before-full : addAnswer (register 1024) (at 3 4 65536) ≡ refuse 2 0
+contradiction-before-limit : cellPositionAnswer space 128 (given (20 ∷ 30 ∷ 65536 ∷ [])) 0 ≡ refuse 13 0
 unfolding positions
-number-before-full = refl
+contradiction-before-limit = refl
 
-start-past-eol : addAnswer (register 1024) (at 3 65536 4) ≡ refuse 13 0
+byte-past-its-limit : cellPositionAnswer space 128 (given (20 ∷ 30 ∷ 65536 ∷ 50 ∷ [])) 0 ≡ refuse 2 0
 unfolding positions
-start-past-eol = refl
+byte-past-its-limit = refl
 
-count-past-the-room : findAnswer (register 1025) 1 1 ≡ refuse 13 0
+-- as given: line 0 is fine, and a position may pass what its numbers may not
+limits-of-numbers : cellPositionAnswer space 128 (placed (11 ∷ 13 ∷ 17 ∷ 19 ∷ 65536 ∷ 29 ∷ []) tableBytes) 9 ∷ cellPositionAnswer space 128 (placed (0 ∷ 13 ∷ 17 ∷ 19 ∷ 65535 ∷ 29 ∷ []) (100 ∷ 200 ∷ 300 ∷ 400 ∷ 65535 ∷ 600 ∷ [])) 2 ∷ []
+    ≡ refuse 2 0 ∷ accept (record { startLine = 65535; startColumn = 65537; endLine = 65535; endColumn = 65541 }) ∷ []
 unfolding positions
-count-past-the-room = refl
+limits-of-numbers = refl
 
-column-past-its-limit : findAnswer (register 0) 1 65536 ≡ refuse 2 0
+-- a line `x` with a carriage return, whose number is past the limit
+numbers-before-set : cellPositionAnswer space 128 (record { drawing = record { lines = 1; bytes = 2; lengths = 2 ∷ []; columns = 0 ∷ []; text = ascii "x\r" }; numbers = 65536 ∷ []; tableBytes = 5 ∷ [] }) 0 ≡ refuse 2 0
 unfolding positions
-column-past-its-limit = refl
-
-only-those-held : findAnswer (register 0) 1 1 ≡ accept none
-unfolding positions
-only-those-held = refl
-
-remapped : remapAnswer 2 (7 ∷ 8 ∷ []) (10 ∷ 20 ∷ []) (at 2 3 4) ≡ accept (at 8 23 24)
-unfolding positions
-remapped = refl
-
-line-past-the-fragments : remapAnswer 2 (7 ∷ 8 ∷ []) (10 ∷ 20 ∷ []) (at 3 3 4) ≡ refuse 13 0
-unfolding positions
-line-past-the-fragments = refl
-
-sum-past-its-limit : remapAnswer 1 (1 ∷ []) (65535 ∷ []) (at 1 1 1) ≡ refuse 2 0
-unfolding positions
-sum-past-its-limit = refl
+numbers-before-set = refl

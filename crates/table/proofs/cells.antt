@@ -1,2 +1,2 @@
--- Laws of the entries of rows and cells.
+-- Laws of the entries of cells.
 pub mod WriteLaws

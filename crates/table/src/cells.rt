@@ -1,8 +1,6 @@
-// Writes the entries of a table's rows and cells.
+// Writes the entries of a table's cells.
 use layout::cell_entries::write_cell;
-use layout::sections::section;
 use representation::Bounds;
-use representation::Parts;
 ghost use Prim.Native.Nat.{ℕ, _*_, _-_, _≤_};
 ghost use mathlib.Core.Path.{_≡_};
 ghost use mathlib.Core.List.{List·Memᴰ};
@@ -10,22 +8,9 @@ ghost use lib.ListN.{length};
 ghost use Rattle.grid.specs.Answer.{over};
 ghost use Rattle.grid.specs.Values.{Rect};
 ghost use Rattle.representation.specs.Arrays.{rectsOf};
-ghost use Rattle.representation.specs.LayoutEntries.{linesHeld, Rising, Numbered};
+ghost use Rattle.representation.specs.LayoutEntries.{linesHeld, Numbered};
 ghost use Rattle.cell.specs.Text.{CountedBy};
-ghost use Rattle.representation.specs.TableEntries.{sectionEntries, tableEntries};
-
-// Each row's section.
-pub fn write_sections(tops: Bounds, parts: Parts, out: &mut [u8])
-    requires { ⌜ Rising tops × (1 ≤ tops .count) × (tops .count - 1 ≤ length (now out)) ⌝ }
-    ensures { λ _. ⌜ now (out .exit) ≡ over (sectionEntries parts (linesHeld tops)) (now (out .entry)) ⌝ }
-{
-    let mut k = 0;
-    while k + 1 < tops.count {
-        let top = tops.lines[k] as usize;
-        out[k] = section(parts, top) as u8;
-        k += 1;
-    }
-}
+ghost use Rattle.representation.specs.TableEntries.{tableEntries};
 
 // Each cell's row, column, colspan, rowspan and number of lines.
 pub fn write_table_cells(

@@ -2,15 +2,16 @@
 pub mod cells;
 pub mod lines;
 pub mod room;
+pub mod sections;
 
-use crate::cells::write_sections;
 use crate::cells::write_table_cells;
 use crate::lines::write_text;
 use crate::room::lacks_room;
+use crate::sections::write_sections;
 use cell::pieces::prepare;
 use layout::bounds::col_bounds;
 use layout::bounds::row_bounds;
-use layout::line_entries::write_columns;
+use layout::column_entries::write_columns;
 use layout::sections::find_parts;
 use reading::Outcome;
 use reading::read;

@@ -1,13 +1,18 @@
--- `trim::trim_end` meets its contract. The invariant: trimming the first n bytes gives what trimming all gives.
-use Prim.Native.Nat.{_≤_}
+-- `rule_lines::trim::trim_end` meets its contract. The invariant: trimming the first n bytes gives what trimming all gives.
+use Prim.Native.Nat.{ℕ, _+_, _≤_}
 use mathlib.Core.Path.{_≡_}
 use borrow.Author.Needs.{needs}
 use lib.ListN.{length, take}
 use lib.Seq.{take-length, length-take-le}
+use native.Mathlib.Nat.{zero-add}
 use Rattle.text.specs.Trim.{trimEnd}
 use Rattle.text.proofs.TrimLaws.{trim-stops, trim-goes-on, trim-leaves-none}
 use Rattle.rule_lines.proofs.trim.trim_end.Statement.{statement}
 use Rattle.rule_lines.proofs.trim.trim_end.Tie as tie
+
+-- the part from byte 0 of a slice starts where the slice starts
+at-start : (p : ℕ × ℕ) → (p .0, 0 + p .1) ≡ p
+at-start p i = (p .0, zero-add (p .1) i)
 
 abbrev Inv-loop : tie.InvT-loop
 Inv-loop text n₀ n = (n ≤ length text) × (trimEnd text ≡ trimEnd (take n text))
@@ -42,11 +47,17 @@ loop-less c = search needs
 loop-again : tie.Need-loop-again Inv-loop μ-loop
 loop-again c = search (needs, trim-goes-on)
 
-slice-aggregate-result-2 : tie.Need-slice-aggregate-result-2 Inv-loop μ-loop
-slice-aggregate-result-2 c = search needs
+sub-result : tie.Need-sub-result Inv-loop μ-loop
+sub-result c = search needs
+
+part-result-start : tie.Need-part-result-start Inv-loop μ-loop
+part-result-start c = search needs
+
+part-result-end : tie.Need-part-result-end Inv-loop μ-loop
+part-result-end c = search needs
 
 returns-2 : tie.Need-returns-2 Inv-loop μ-loop
-returns-2 c = search trim-leaves-none
+returns-2 c = (search at-start, search trim-leaves-none)
 
 pub trim-end-spec : {M : Type 1} → statement M
 trim-end-spec =
@@ -63,5 +74,7 @@ trim-end-spec =
     sub-n
     loop-less
     loop-again
-    slice-aggregate-result-2
+    sub-result
+    part-result-start
+    part-result-end
     returns-2)

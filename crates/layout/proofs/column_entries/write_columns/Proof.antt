@@ -1,12 +1,12 @@
--- `line_entries::write_columns` meets its contract. The invariant: the entries of the first k columns are written.
+-- `layout::column_entries::write_columns` meets its contract. The invariant: the entries of the first k columns are written.
 use Prim.Native.Nat.{_+_, _-_, _≤_}
 use native.Mathlib.Omega.{arith}
 use lib.ListN.{length-set}
 use Rattle.representation.proofs.HeldLaws.{lines-ordered, lines-apart, line-small, width-fits}
-use Rattle.layout.proofs.line_entries.LineEntryLaws.{ColumnsWritten, no-column, column-next, columns-done}
+use Rattle.layout.proofs.column_entries.ColumnEntryLaws.{ColumnsWritten, no-column, column-next, columns-done}
 use borrow.Author.Needs.{needs}
-use Rattle.layout.proofs.line_entries.write_columns.Statement.{statement}
-use Rattle.layout.proofs.line_entries.write_columns.Tie as tie
+use Rattle.layout.proofs.column_entries.write_columns.Statement.{statement}
+use Rattle.layout.proofs.column_entries.write_columns.Tie as tie
 
 abbrev Inv-loop : tie.InvT-loop
 Inv-loop glyphs offsets line a out₀ columns k₀ out k = (k + 1 ≤ columns .count) × ColumnsWritten glyphs offsets line a columns out₀ k out

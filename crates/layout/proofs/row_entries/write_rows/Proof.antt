@@ -1,11 +1,11 @@
--- `line_entries::write_rows` meets its contract. The invariant: the entries of the first k rows are written.
+-- `layout::row_entries::write_rows` meets its contract. The invariant: the entries of the first k rows are written.
 use Prim.Native.Nat.{_+_, _-_, _≤_}
-use Rattle.layout.proofs.line_entries.LineEntryLaws.{RowsWritten, no-row, row-next, rows-done}
+use Rattle.layout.proofs.row_entries.RowEntryLaws.{RowsWritten, no-row, row-next, rows-done}
 use native.Mathlib.Omega.{arith}
 use lib.ListN.{length-set}
 use borrow.Author.Needs.{needs}
-use Rattle.layout.proofs.line_entries.write_rows.Statement.{statement}
-use Rattle.layout.proofs.line_entries.write_rows.Tie as tie
+use Rattle.layout.proofs.row_entries.write_rows.Statement.{statement}
+use Rattle.layout.proofs.row_entries.write_rows.Tie as tie
 
 abbrev Inv-loop : tie.InvT-loop
 Inv-loop p out₀ rows k₀ out k = (k + 1 ≤ rows .count) × RowsWritten p rows out₀ k out

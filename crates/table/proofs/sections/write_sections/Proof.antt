@@ -2,9 +2,9 @@
 use Prim.Native.Nat.{_+_, _-_, _≤_}
 use native.Mathlib.Omega.{arith}
 use borrow.Author.Needs.{needs}
-use Rattle.table.proofs.cells.WriteLaws.{SectionsWritten, no-section, section-fits, section-next, sections-done}
-use Rattle.table.proofs.cells.write_sections.Statement.{statement}
-use Rattle.table.proofs.cells.write_sections.Tie as tie
+use Rattle.table.proofs.sections.WriteLaws.{SectionsWritten, no-section, section-fits, section-next, sections-done}
+use Rattle.table.proofs.sections.write_sections.Statement.{statement}
+use Rattle.table.proofs.sections.write_sections.Tie as tie
 
 abbrev Inv-loop : tie.InvT-loop
 Inv-loop parts out₀ tops k₀ out k =

@@ -1,0 +1,2 @@
+-- Laws of the entries of columns.
+pub mod ColumnEntryLaws

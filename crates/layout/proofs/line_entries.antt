@@ -1,2 +1,0 @@
--- Laws of the entries of columns and rows.
-pub mod LineEntryLaws

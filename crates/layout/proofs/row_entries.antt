@@ -1,0 +1,2 @@
+-- Laws of the entries of rows.
+pub mod RowEntryLaws

@@ -1,0 +1,2 @@
+-- Laws of the sections of rows.
+pub mod WriteLaws

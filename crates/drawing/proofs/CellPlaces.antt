@@ -2,20 +2,21 @@
 -- row, that no cell before it holds. Cite `keeps-places`.
 use Prim.Native.Nat.{ℕ, _+_, _≤_, _<_}
 use mathlib.Core.Path.{_≡_, refl, sym, ap}
-use mathlib.Core.Bool.{Bool, true, _&&_}
+use mathlib.Core.Bool.{true, _&&_}
 use mathlib.Core.Logic.{_⊎_, inl, inr, ⊎-elim}
 use mathlib.Core.List.{List, [], _∷_, map, List·Memᴰ, List·Memᴰ·head, List·Memᴰ·tail}
 use native.Mathlib.Omega.{arith}
-use lib.Dec.{eqb, leb, ltb}
+use lib.Dec.{leb, ltb}
 use lib.ListN.{length, getD, drop}
-use borrow.Author.Tests.{leb-true, ltb-true, eqb-true, lt-ltb, le-leb}
-use Rattle.seq.specs.Lists.{upTo, all, count, neighbours}
+use borrow.Author.Tests.{leb-true, lt-ltb, le-leb}
+use Rattle.seq.specs.Lists.{all, count, neighbours}
 use Rattle.seq.proofs.Tests.{and-left, and-right, and-intro, refused, bit, le-or-lt, lex-above, lex-beside, lex-cases, lex-trans}
-use Rattle.seq.proofs.Searches.{all-range, count-cons, count-mem, count-pick}
+use Rattle.seq.proofs.Searches.{mem-all, count-cons, count-mem, count-pick}
 use Rattle.seq.proofs.Sorted.{Strict, sorted-tail, sorted-head}
 use Rattle.grid.specs.Values.{TableCell, Table}
 use Rattle.grid.proofs.SameLaws.{eachCell, SamePlaces}
-use Rattle.drawing.specs.GridRules.{comesBefore, inOrder, staysInside, allInside, holdsSquare, coverOnce, allStart, sectionsRun, noneCrosses, keepsRules}
+use Rattle.drawing.specs.GridRules.{comesBefore, staysInside, holdsSquare, keepsRules}
+use Rattle.drawing.proofs.KeptLaws.{Lies, lies-stays, stays-lies, keepsRules-kept}
 
 comesBefore-strict : Strict comesBefore
 comesBefore-strict =
@@ -49,27 +50,6 @@ holds-same : (c d : TableCell) → c .row ≡ d .row → c .column ≡ d .column
     → (r k : ℕ) → holdsSquare r k c ≡ holdsSquare r k d
 holds-same c d row column colspan rowspan r k = λ i. leb (row i) r && ltb r (row i + rowspan i) && leb (column i) k && ltb k (column i + colspan i)
 
-record Stays (t : Table) (c : TableCell) : Type 0 where
-  broad : 0 < c .colspan
-  tall : 0 < c .rowspan
-  near : c .column + c .colspan ≤ length (t .columns)
-  low : c .row + c .rowspan ≤ length (t .sections)
-
-stays-inside : (t : Table) (c : TableCell) → staysInside t c ≡ true → Stays t c
-stays-inside t c e =
-    let p = ltb 0 (c .colspan) in
-    let q = ltb 0 (c .rowspan) in
-    let s = leb (c .column + c .colspan) (length (t .columns)) in
-    let u = leb (c .row + c .rowspan) (length (t .sections)) in
-    let f = and-left (p && q && s) u e in
-    let g = and-left (p && q) s f in
-    record {
-      broad = ltb-true 0 (c .colspan) (and-left p q g);
-      tall = ltb-true 0 (c .rowspan) (and-right p q g);
-      near = leb-true (c .column + c .colspan) (length (t .columns)) (and-right (p && q) s f);
-      low = leb-true (c .row + c .rowspan) (length (t .sections)) (and-right (p && q && s) u e);
-    }
-
 -- ---- the cells that are left
 
 -- in order and inside the table's grid, they hold once each square that those before them leave
@@ -80,20 +60,12 @@ record Rest (t : Table) (before : ℕ → ℕ → ℕ) (cells : List TableCell) 
 
 -- all cells of a table that keeps the rules
 rest-all : (t : Table) → keepsRules t ≡ true → Rest t (λ r k. 0) (t .cells)
-unfolding keepsRules inOrder allInside coverOnce
 rest-all t e =
-    let a = inOrder t in
-    let b = allInside t in
-    let c = coverOnce t in
-    let kept = and-left (a && b && c) (allStart t) (and-left (a && b && c && allStart t) (sectionsRun t) (and-left (a && b && c && allStart t && sectionsRun t) (noneCrosses t) e)) in
-    let once : ℕ → ℕ → Bool = λ r k. eqb (count (holdsSquare r k) (t .cells)) 1 in
+    let kept = keepsRules-kept t e in
     record {
-      ordered = and-left a b (and-left (a && b) c kept);
-      inside = and-right a b (and-left (a && b) c kept);
-      once = λ r k low near.
-          let row = all-range (λ r. all (once r) (upTo (length (t .columns)))) 0 (length (t .sections)) (and-right (a && b) c kept) r (omega arith) (omega arith) in
-          let square = all-range (once r) 0 (length (t .columns)) row k (omega arith) (omega arith) in
-          omega (arith, eqb-true (count (holdsSquare r k) (t .cells)) 1 square);
+      ordered = kept .ordered;
+      inside = mem-all (staysInside t) (t .cells) (λ c m. lies-stays t c (kept .lies c m));
+      once = λ r k low near. omega (arith, kept .square r k low near);
     }
 
 -- without the first of them, of which one that holds the same squares may stand for it
@@ -107,9 +79,9 @@ rest-next {t} {d = d} {ds} c same rest =
       once = λ r k low near. omega (arith, rest .once r k low near, count-cons (holdsSquare r k) d ds, ap bit (same r k));
     }
 
-rest-head : {t : Table} {before : ℕ → ℕ → ℕ} {c : TableCell} {cs : List TableCell} → Rest t before (c ∷ cs) → Stays t c
+rest-head : {t : Table} {before : ℕ → ℕ → ℕ} {c : TableCell} {cs : List TableCell} → Rest t before (c ∷ cs) → Lies t c
 unfolding all
-rest-head {t} {c = c} {cs} rest = stays-inside t c (and-left (staysInside t c) (all (staysInside t) cs) (rest .inside))
+rest-head {t} {c = c} {cs} rest = stays-lies t c (and-left (staysInside t c) (all (staysInside t) cs) (rest .inside))
 
 module _ {t u : Table} (rows : length (t .sections) ≡ length (u .sections)) (columns : length (t .columns) ≡ length (u .columns)) where
   -- where the same squares are left in two tables, the first cell left in one does not come before the first left in the other: the cell

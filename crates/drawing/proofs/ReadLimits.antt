@@ -3,21 +3,21 @@ use Prim.Native.Nat.{ℕ, _-_, _≤_, _<_}
 use mathlib.Core.Path.{_≡_, refl, sym, ap, subst, _∙_}
 use mathlib.Core.Bool.{Bool, true, false, not, _&&_}
 use mathlib.Core.Option.{none}
-use mathlib.Core.List.{List, [], _∷_, map, flatMap, List·Memᴰ, Memᴰ·of-map}
+use mathlib.Core.List.{List, [], map, flatMap, List·Memᴰ, Memᴰ·of-map}
 use native.Mathlib.Omega.{arith}
 use lib.Dec.{ltb}
 use lib.ListN.{length, getD, length-map}
 use borrow.Author.Tests.{le-ltb, ltb-true}
-use Rattle.seq.specs.Lists.{sum, any, count, isEmpty}
+use Rattle.seq.specs.Lists.{sum, any, count}
 use Rattle.seq.proofs.Tests.{true-not-false, or-none}
-use Rattle.seq.proofs.Searches.{any-mem, mem-any, none-any, count-few, count-none}
+use Rattle.seq.proofs.ListsLaws.{length-some}
+use Rattle.seq.proofs.Searches.{any-mem, mem-any, count-few, count-none}
 use Rattle.seq.proofs.Rising.{Position, position}
 use Rattle.seq.proofs.FlatMaps.{mem-flatMap, flatMap-map, length-flatMap-sum}
 use Rattle.seq.proofs.Gathered.{first-nowhere}
 use Rattle.seq.proofs.Positions.{getD-mem}
 use Rattle.seq.proofs.Sums.{sum-le, sum-flatMap}
 use Rattle.text.specs.Utf8.{wellFormed}
-use Rattle.grid.specs.Limits.{maxLines, maxLineBytes, maxWidth}
 use Rattle.grid.specs.Values.{Line, Rect, GridTableColumn, TableCell, Table}
 use Rattle.grid.specs.Answer.{Answer, accept, refuseIf, refuseAt, andThen}
 use Rattle.grid.specs.Slots.{Grid, gridOf}
@@ -39,11 +39,8 @@ use Rattle.drawing.specs.GridRules.{isHead, isFoot}
 use Rattle.drawing.specs.Redraw.{tableEmpty, shapeTooLarge, linesTooLarge, tableTooLarge, tableOutsideSet, footWithoutHead, checkTable, misaligned, drawnTooLarge, splitCell, redrawCanvas, redraw}
 use Rattle.drawing.specs.RedrawCall.{DrawingArrays, redrawSpace, drawingShort, redrawAccepts}
 use Rattle.drawing.specs.Plain.{canvasOf, canvasLines}
+use Rattle.drawing.proofs.LimitLaws.{limits-shape, limits-lines}
 use Rattle.drawing.proofs.ReadRules.{table, cell, table-cells, table-columns, table-rows, table-sections, section-of, stands, read-keeps}
-
-some-there : {A : Type 0} (l : List A) → 0 < length l → isEmpty l ≡ false
-some-there [] h = absurd (omega arith)
-some-there (a ∷ l) h = refl
 
 is-foot : (s : GridTableSection) → isFoot s ≡ true → s ≡ Foot
 is-foot Head e = absurd (true-not-false (sym e))
@@ -71,28 +68,28 @@ module _ (lines : List Line) (rs : List Rect) (checks : Passed lines rs) where
       let p = stands lines g rs cover m in
       let rects : 0 < length rs = omega (arith, cover .once 0 0 (cover .tall) (cover .wide), count-few (holds 0 0) rs) in
       or-none
-      (or-none (some-there (t .columns) (omega (arith, table-columns lines g rs cover, p .wide, p .right .inside)))
-      (some-there (t .sections) (omega (arith, table-rows lines g rs cover, p .tall, p .bottom .inside))))
-      (some-there (t .cells) (omega (arith, ap length (table-cells lines g rs cover), length-map rs (cell lines g rs cover))))
+      (or-none (length-some (t .columns) (omega (arith, table-columns lines g rs cover, p .wide, p .right .inside)))
+      (length-some (t .sections) (omega (arith, table-rows lines g rs cover, p .tall, p .bottom .inside))))
+      (length-some (t .cells) (omega (arith, ap length (table-cells lines g rs cover), length-map rs (cell lines g rs cover))))
 
   -- ---- 2, of the shape
-  column-narrow : (c : GridTableColumn) → List·Memᴰ c (t .columns) → ltb maxWidth (c .width) ≡ false
+  column-narrow : (c : GridTableColumn) → List·Memᴰ c (t .columns) → c .width ≤ 128
   unfolding tableOf layoutOf columnsRead
   column-narrow c m =
       let (b, n, made) = Memᴰ·of-map columnOf (between (columnLines g rs)) m in
-      le-ltb maxWidth (c .width) (omega (arith, ap (λ (c : GridTableColumn). c .width) made, columnLine-inside g rs (between-mem (columnLines g rs) n), read-narrow checks)) where
+      omega (arith, ap (λ (c : GridTableColumn). c .width) made, columnLine-inside g rs (between-mem (columnLines g rs) n), read-narrow checks) where
         columnOf : Between → GridTableColumn
         columnOf b = record { alignment = alignmentAt lines g (b .from); width = b .to - b .from - 1 }
 
   shape-small : shapeTooLarge t ≡ false
-  unfolding shapeTooLarge
   shape-small =
-      or-none
-      (or-none
-      (or-none (le-ltb _ (length (t .columns)) (omega (arith, table-columns lines g rs cover, columnLines-few g rs, read-narrow checks)))
-      (le-ltb _ (length (t .sections)) (omega (arith, table-rows lines g rs cover, rowLines-few g rs, tall))))
-      (le-ltb _ (length (t .cells)) (omega (arith, ap length (table-cells lines g rs cover), length-map rs (cell lines g rs cover), read-few checks))))
-      (none-any (λ (c : GridTableColumn). ltb maxWidth (c .width)) (t .columns) column-narrow)
+      limits-shape t
+      (record {
+        columns = omega (arith, table-columns lines g rs cover, columnLines-few g rs, read-narrow checks);
+        rows = omega (arith, table-rows lines g rs cover, rowLines-few g rs, tall);
+        cells = omega (arith, ap length (table-cells lines g rs cover), length-map rs (cell lines g rs cover), read-few checks);
+        widths = column-narrow;
+      })
 
   -- ---- 2, of the lines
   abbrev cellLines : Rect → List (List ℕ)
@@ -108,11 +105,10 @@ module _ (lines : List Line) (rs : List Rect) (checks : Passed lines rs) where
       let (y, inner, made) = cell-line lines g rs cover m here in
       (r, m, y, inner, made)
 
-  cell-small : (c : TableCell) → List·Memᴰ c (t .cells) → ltb maxLines (length (c .lines)) ≡ false
+  cell-small : (c : TableCell) → List·Memᴰ c (t .cells) → length (c .lines) ≤ 128
   cell-small c n =
       let (r, m, made) = Memᴰ·of-map (cell lines g rs cover) rs (subst (λ (l : List TableCell). List·Memᴰ c l) (table-cells lines g rs cover) n) in
-      le-ltb maxLines (length (c .lines))
-      (omega (arith, ap (λ (c : TableCell). length (c .lines)) made, cell-fewer lines g rs cover m, cover .first r m .bordered .bottomInside, tall))
+      omega (arith, ap (λ (c : TableCell). length (c .lines)) made, cell-fewer lines g rs cover m, cover .first r m .bordered .bottomInside, tall)
 
   lines-few : length (tableLines t) ≤ 16384
   lines-few =
@@ -124,10 +120,10 @@ module _ (lines : List Line) (rs : List Rect) (checks : Passed lines rs) where
         all-lines lines rs checks,
       )
 
-  line-short : (line : List ℕ) → List·Memᴰ line (tableLines t) → ltb maxLineBytes (length line) ≡ false
+  line-short : (line : List ℕ) → List·Memᴰ line (tableLines t) → length line ≤ 512
   line-short line n =
       let (r, m, y, inner, made) = cut-line n in
-      le-ltb maxLineBytes (length line) (omega (arith, ap length made, cut-short lines rs checks m y inner))
+      omega (arith, ap length made, cut-short lines rs checks m y inner)
 
   bytes-few : sum (map length (tableLines t)) ≤ 32768
   bytes-few =
@@ -141,14 +137,7 @@ module _ (lines : List Line) (rs : List Rect) (checks : Passed lines rs) where
       )
 
   lines-small : linesTooLarge t ≡ false
-  unfolding linesTooLarge
-  lines-small =
-      or-none
-      (or-none
-      (or-none (none-any (λ (c : TableCell). ltb maxLines (length (c .lines))) (t .cells) cell-small)
-      (le-ltb _ (length (tableLines t)) lines-few))
-      (none-any (λ line. ltb maxLineBytes (length line)) (tableLines t) line-short))
-      (le-ltb _ (sum (map length (tableLines t))) bytes-few)
+  lines-small = limits-lines t (record { each = cell-small; lines = lines-few; short = line-short; bytes = bytes-few })
 
   -- ---- 3
   line-well : (line : List ℕ) → List·Memᴰ line (tableLines t) → not (wellFormed line) ≡ false

@@ -27,6 +27,7 @@ use Rattle.grid.proofs.ReadLaws.{passed, table-read}
 use Rattle.grid.proofs.SectionLaws.{above-before, from-after, same-section}
 use Rattle.grid.proofs.SeparatorLaws.{Uncut, read-uncut}
 use Rattle.drawing.specs.GridRules.{mayFollow, comesBefore, inOrder, staysInside, allInside, holdsSquare, coverOnce, allStart, sectionsRun, sameSection, noneCrosses, keepsRules}
+use Rattle.drawing.proofs.KeptLaws.{lies-stays}
 
 -- ---- sections
 
@@ -115,9 +116,13 @@ module _ (lines : List Line) (g : Grid) (rs : List Rect) (cover : Cover g rs) wh
     inside : (r : Rect) → List·Memᴰ r rs → staysInside table (cell r) ≡ true
     inside r m =
         let p = stands m in
-        and-intro (and-intro (and-intro (lt-ltb 0 (cell r .colspan) (omega (arith, p .wide, p .columnEnd))) (lt-ltb 0 (cell r .rowspan) (omega (arith, p .tall, p .rowEnd))))
-        (le-leb (cell r .column + cell r .colspan) (length (table .columns)) (omega (arith, p .columnEnd, table-columns, p .right .inside))))
-        (le-leb (cell r .row + cell r .rowspan) (length (table .sections)) (omega (arith, p .rowEnd, table-rows, p .bottom .inside)))
+        lies-stays table (cell r)
+        (record {
+          broad = omega (arith, p .wide, p .columnEnd);
+          tall = omega (arith, p .tall, p .rowEnd);
+          near = omega (arith, p .columnEnd, table-columns, p .right .inside);
+          low = omega (arith, p .rowEnd, table-rows, p .bottom .inside);
+        })
 
   -- a cell holds a square of the table where its rectangle holds the square at those lines
   holds-as : {r : Rect} → List·Memᴰ r rs → (i k : ℕ) → suc i < length rows → suc k < length columns

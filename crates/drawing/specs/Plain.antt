@@ -9,6 +9,7 @@ use lib.Dec.{eqb, ltb}
 use Rattle.seq.specs.Lists.{range, upTo, any, find, count, lastD, orDefault}
 use Rattle.text.specs.Characters.{space, plus, colon}
 use Rattle.text.specs.Utf8.{charIndices}
+use Rattle.text.specs.Columns.{columnsFrom}
 use Rattle.grid.specs.Values.{Line, Rect, GridTableColumn, TableCell, Table}
 use Rattle.grid.specs.Slots.{dash, equals, pipe}
 use Rattle.grid.specs.Layout.{firstOf}
@@ -16,7 +17,7 @@ use Rattle.grid.specs.Same.{drawnLines}
 use Rattle.grid.specs.declared.TableAlignment.{TableAlignment}
 use Rattle.grid.specs.declared.TableAlignment.the-variants.{None, Left, Right, Center}
 use Rattle.drawing.specs.GridRules.{isHead, isFoot}
-use Rattle.drawing.specs.Sizes.{columnsFrom, widths, heights, offsets}
+use Rattle.drawing.specs.Sizes.{widths, heights, offsets}
 
 -- a cell as drawn: its borders, and its lines, "trimmed and empty last ones dropped"
 pub record Box : Type 0 where

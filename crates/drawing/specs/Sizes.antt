@@ -5,7 +5,7 @@ use mathlib.Core.List.{List, [], _∷_, map}
 use lib.ListN.{length, getD, take, drop, set}
 use lib.Dec.{eqb}
 use Rattle.seq.specs.Lists.{sum, largest}
-use Rattle.text.specs.Characters.{tab, widthOf, columnsOf, span}
+use Rattle.text.specs.Characters.{tab, widthOf, columnsOf}
 use Rattle.text.specs.Utf8.{CharIndex, charIndices}
 use Rattle.grid.specs.Values.{GridTableColumn, TableCell, Table}
 use Rattle.grid.specs.Same.{drawnLines}
@@ -18,11 +18,6 @@ measure c = cond (eqb (c .value) tab) 4 (columnsOf (widthOf (c .value)))
 
 unfoldable pub widest : List (List ℕ) → ℕ
 widest lines = largest (map (λ line. sum (map measure (charIndices line))) lines)
-
--- the columns that characters take from a column on
-unfoldable pub columnsFrom : ℕ → List CharIndex → ℕ
-columnsFrom column [] = 0
-columnsFrom column (c ∷ cs) = span column (c .value) + columnsFrom (column + span column (c .value)) cs
 
 -- what a cell asks of the columns, or rows, from `from` up to `to`, inner borders counted
 pub record Need : Type 0 where

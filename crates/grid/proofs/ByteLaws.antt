@@ -23,7 +23,7 @@ use Rattle.grid.specs.Values.{Line}
 use Rattle.grid.specs.Slots.{Slot, Plus, Dash, Pipe, Other, dash, pipe, vertical, glyphAt, glyphOf, slotsFrom, lineSlots, isSeparator, gridOf, slotAt, byteAt}
 use Rattle.grid.proofs.SlotLaws.{rowAt, row-at}
 
-char-byte : (at skip : ℕ) (s : List ℕ) {c : CharIndex} → List·Memᴰ c (charsFrom at skip s) → c .byte < at + length s
+pub char-byte : (at skip : ℕ) (s : List ℕ) {c : CharIndex} → List·Memᴰ c (charsFrom at skip s) → c .byte < at + length s
 unfolding charsFrom
 char-byte at skip [] m = absurd (List·Memᴰ·not-nil m)
 char-byte at (suc skip) (b ∷ bs) m = let h = char-byte (at + 1) skip bs m in omega arith
@@ -36,7 +36,7 @@ char-byte at zero (b ∷ bs) {c} m = go (character (b ∷ bs)) m (λ k n. char-b
   go Refused m later = absurd (List·Memᴰ·not-nil m)
 
 -- the character that stands in a slot
-slot-character : (rule : Bool) (column : ℕ) (cs : List CharIndex) {s : Slot} → List·Memᴰ s (slotsFrom rule column cs)
+pub slot-character : (rule : Bool) (column : ℕ) (cs : List CharIndex) {s : Slot} → List·Memᴰ s (slotsFrom rule column cs)
     → (c : CharIndex) × List·Memᴰ c cs × (s ≡ record { glyph = glyphOf rule (c .value); byte = c .byte })
 unfolding slotsFrom
 slot-character rule column [] m = absurd (List·Memᴰ·not-nil m)

@@ -27,7 +27,7 @@ pub record CoverFrom (g : Grid) (sky : List ℕ) (rs : List Rect) : Type 0 where
   pub first : (r : Rect) → List·Memᴰ r rs → First g r
   pub once : (y x : ℕ) → suc y < g .height → suc x < g .width → count (holds y x) rs + under sky y x ≡ 1
 
-own-corner : {g : Grid} {r : Rect} → Bordered g r → Inside (r .top) (r .left) r
+pub own-corner : {g : Grid} {r : Rect} → Bordered g r → Inside (r .top) (r .left) r
 own-corner h = record { below = omega arith; above = h .topAboveBottom; after = omega arith; before = h .leftBeforeRight }
 
 module _ {g : Grid} {sky : List ℕ} (fits : Fits g sky) where

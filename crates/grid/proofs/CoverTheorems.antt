@@ -141,7 +141,7 @@ cover-traced g cs cover few =
     let found = cover-traces g maxCells (ground g) cs (fits-ground g (cover .wide)) (from-cover cover) few in
     (found .0, traced-sized g s ∙ found .1, found .2)
 
-precedes-strict : Strict precedes
+pub precedes-strict : Strict precedes
 precedes-strict =
     record {
       irreflexive = λ a.

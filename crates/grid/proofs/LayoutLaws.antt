@@ -155,7 +155,7 @@ module _ {g : Grid} {rs : List Rect} (cover : Cover g rs) where
       (held .0, held .1, inside-holds y x (held .0) (held .2))
 
   -- two rectangles that hold one square are the same
-  same-holder : {q r : Rect} → List·Memᴰ q rs → List·Memᴰ r rs → {y x : ℕ} → suc y < g .height → suc x < g .width → Inside y x q → Inside y x r → q ≡ r
+  pub same-holder : {q r : Rect} → List·Memᴰ q rs → List·Memᴰ r rs → {y x : ℕ} → suc y < g .height → suc x < g .width → Inside y x q → Inside y x r → q ≡ r
   same-holder m n {y} {x} hy hx i j =
       count-one (holds y x) (cover .once y x hy hx) m n (holds-inside (i .below) (i .above) (i .after) (i .before)) (holds-inside (j .below) (j .above) (j .after) (j .before))
 

@@ -6,6 +6,7 @@ pub mod ExamplesCutting
 -- Slots, lines and their bytes.
 pub mod SlotLaws
 pub mod ByteLaws
+pub mod SpanSlotLaws
 pub mod GlyphLaws
 -- First bordered rectangles, the skyline and tracing; main theorems: a layout is the only cover.
 pub mod RectangleLaws
@@ -13,6 +14,7 @@ pub mod SkylineLaws
 pub mod TraceLaws
 pub mod CoverLaws
 pub mod CoverTheorems
+pub mod TileLaws
 -- The layout read from a cover: its lines, sections, separators and sizes.
 pub mod LayoutLaws
 pub mod SectionLaws
@@ -23,10 +25,13 @@ pub mod SquareSums
 pub mod CutLaws
 pub mod CellLaws
 pub mod CellTexts
+pub mod DrawnLineLaws
 -- The flat form, taken apart.
 pub mod FlatLaws
 pub mod FlatTableLaws
+pub mod FlatDrawingLaws
 -- Reading and its refusals; main theorems: what each call answers is the only cover, its 6 none, its 7 a 1,025th.
+pub mod AnswerLaws
 pub mod ReadLaws
 pub mod RebuiltLaws
 pub mod CallTheorems

@@ -137,7 +137,7 @@ pub record Limited (lines : List Line) : Type 0 where
   pub shortLines : {line : Line} → List·Memᴰ line lines → length (line .text) ≤ 512
   pub fewBytes : sum (map (λ (line : Line). length (line .text)) lines) ≤ 32768
 
-limited : (lines : List Line) → drawingTooLarge lines ≡ false → Limited lines
+pub limited : (lines : List Line) → drawingTooLarge lines ≡ false → Limited lines
 unfolding drawingTooLarge
 limited lines e =
     let bytes = sum (map (λ (line : Line). length (line .text)) lines) in

@@ -17,7 +17,7 @@ use Rattle.grid.specs.Cover.{Bordered, First, FirstByRight}
 abbrev pub rect : ℕ → ℕ → ℕ → ℕ → Rect
 rect t l b r = record { top = t; left = l; bottom = b; right = r }
 
-plus-is : (k : Glyph) → isPlus k ≡ true → k ≡ Plus
+pub plus-is : (k : Glyph) → isPlus k ≡ true → k ≡ Plus
 plus-is Plus e = refl
 plus-is Dash e = absurd (true-not-false (sym e))
 plus-is Pipe e = absurd (true-not-false (sym e))

@@ -1,7 +1,7 @@
 -- Laws of flatMap: lists end to end.
 use Prim.Native.Nat.{ℕ, _*_}
-use mathlib.Core.Path.{_≡_, refl, _∙_}
-use mathlib.Core.List.{List, [], _∷_, _++_, map, flatMap, append-assoc, List·Memᴰ, List·Memᴰ·head, List·Memᴰ·tail, List·Memᴰ·append-cases}
+use mathlib.Core.Path.{_≡_, refl, subst, _∙_}
+use mathlib.Core.List.{List, [], _∷_, _++_, map, flatMap, append-assoc, List·Memᴰ, List·Memᴰ·head, List·Memᴰ·tail, List·Memᴰ·append-cases, Memᴰ·append-left, Memᴰ·append-right}
 use mathlib.Core.Logic.{_⊎_, inl, inr}
 use native.Mathlib.Nat.{mul-suc}
 use native.Mathlib.Omega.{arith}
@@ -40,6 +40,11 @@ module _ {A B : Type 0} where
         → (c : A) × List·Memᴰ c (a ∷ l) × List·Memᴰ b (f c)
     go (inl here) later = (a, List·Memᴰ·head refl, here)
     go (inr n) later = let found = later n in (found .0, List·Memᴰ·tail (found .1), found .2)
+
+  pub flatMap-mem : (f : A → List B) {l : List A} {a : A} {b : B} → List·Memᴰ a l → List·Memᴰ b (f a) → List·Memᴰ b (flatMap f l)
+  unfolding flatMap
+  flatMap-mem f {b = b} (List·Memᴰ·head {x} {xs} q) n = Memᴰ·append-left (flatMap f xs) (subst (λ z. List·Memᴰ b (f z)) q n)
+  flatMap-mem f (List·Memᴰ·tail {x} {xs} m) n = Memᴰ·append-right (f x) (flatMap-mem f m n)
 
   pub flatMap-append : (f : A → List B) (k l : List A) → flatMap f (k ++ l) ≡ flatMap f k ++ flatMap f l
   unfolding flatMap

@@ -9,7 +9,7 @@ use lib.Dec.{leb, ltb}
 use lib.ListN.{length, take, drop, getD, length-drop, List·getD-eq-default}
 use lib.Seq.{drop-cons, take-suc, take-all, take-length}
 use borrow.Author.Tests.{leb-true, leb-false, ltb-true, ltb-false, lt-ltb, le-ltb}
-use Rattle.seq.specs.Lists.{within}
+use Rattle.seq.specs.Lists.{within, isEmpty}
 use Rattle.seq.proofs.Tests.{true-not-false}
 
 -- ---- within
@@ -69,3 +69,12 @@ part-to-end s a = take-all (length s - a) (drop a s) (rw length-drop (omega arit
 
 pub last-apart : (s : List ℕ) → (length s ≡ 0 → ⊥) → s ≡ take (length s - 1) s ++ getD s (length s - 1) 0 ∷ []
 last-apart s some = sym (take-length s) ∙ take-last s (length s) (omega arith) (omega arith)
+
+-- ---- lists that are not empty
+pub some-length : {A : Type 0} (l : List A) → isEmpty l ≡ false → 0 < length l
+some-length [] e = absurd (true-not-false e)
+some-length (a ∷ l) e = omega arith
+
+pub length-some : {A : Type 0} (l : List A) → 0 < length l → isEmpty l ≡ false
+length-some [] h = absurd (omega arith)
+length-some (a ∷ l) h = refl

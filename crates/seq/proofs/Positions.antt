@@ -1,10 +1,10 @@
 -- Laws of the element at a position.
 use Prim.Native.Nat.{ℕ, zero, suc, _+_, _-_, _≤_, _<_}
 use mathlib.Core.Path.{_≡_, refl, ap, _∙_}
-use mathlib.Core.List.{List, [], _∷_, _++_, map, List·Memᴰ, List·Memᴰ·head, List·Memᴰ·tail}
+use mathlib.Core.List.{List, [], _∷_, _++_, map, map-append, List·Memᴰ, List·Memᴰ·head, List·Memᴰ·tail}
 use native.Mathlib.Omega.{arith}
-use lib.ListN.{length, getD, replicate}
-use lib.Seq.{getD-append-add}
+use lib.ListN.{length, getD, replicate, length-map}
+use lib.Seq.{getD-append-add, getD-at}
 use Rattle.seq.specs.Lists.{range, upTo}
 use Rattle.seq.proofs.Ranges.{length-range}
 
@@ -22,6 +22,10 @@ pub getD-map : {A B : Type 0} (f : A → B) (l : List A) (i : ℕ) (d : B) (e : 
 getD-map f [] i d e h = absurd (omega arith)
 getD-map f (a ∷ l) zero d e h = refl
 getD-map f (a ∷ l) (suc i) d e h = getD-map f l i d e (omega arith)
+
+-- what a function makes of the element behind a list's first part
+pub getD-map-at : {A B : Type 0} (f : A → B) (xs : List A) (x : A) (ys : List A) (n : ℕ) (d : B) → length xs ≡ n → getD (map f (xs ++ x ∷ ys)) n d ≡ f x
+getD-map-at {A} {B} f xs x ys n d e = ap (λ (l : List B). getD l n d) (map-append f xs (x ∷ ys)) ∙ getD-at (map f xs) (f x) (map f ys) d n (length-map xs f ∙ e)
 
 pub getD-range : (from count i d : ℕ) → i < count → getD (range from count) i d ≡ from + i
 unfolding range

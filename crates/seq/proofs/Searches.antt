@@ -4,16 +4,18 @@ use mathlib.Core.Path.{_≡_, refl, sym, ap, _∙_}
 use mathlib.Core.Bool.{Bool, true, false, _&&_, _||_, cond}
 use mathlib.Core.Logic.{_⊎_, inl, inr, ⊎-elim}
 use mathlib.Core.Option.{Option, none, some}
-use mathlib.Core.List.{List, [], _∷_, map, List·Memᴰ, List·Memᴰ·head, List·Memᴰ·tail}
+use mathlib.Core.List.{List, [], _∷_, map, List·Memᴰ, List·Memᴰ·head, List·Memᴰ·tail, Memᴰ·cast}
 use native.Mathlib.Omega.{arith}
 use native.Mathlib.Nat.{eq-or-lt-of-le}
+use lib.Dec.{eqb}
+use borrow.Author.Tests.{eqb-true, eq-eqb}
 use lib.ListN.{length, getD}
 use Rattle.seq.specs.Lists.{range, all, any, select, consIf, count, orNext, firstSome, firstAt, someIf, neighbours}
 use Rattle.seq.proofs.Tests.{true-not-false, and-left, and-right, and-intro, or-cases, or-left, or-right, refused, bit, bit-true, bit-false, bit-one}
 use Rattle.seq.proofs.Ranges.{mem-range, range-mem}
 
 module _ {A : Type 0} (test : A → Bool) where
-  all-mem : (l : List A) → all test l ≡ true → {a : A} → List·Memᴰ a l → test a ≡ true
+  pub all-mem : (l : List A) → all test l ≡ true → {a : A} → List·Memᴰ a l → test a ≡ true
   unfolding all
   all-mem (b ∷ l) e (List·Memᴰ·head q) = rw q (and-left (test b) (all test l) e)
   all-mem (b ∷ l) e (List·Memᴰ·tail m) = all-mem l (and-right (test b) (all test l) e) m
@@ -109,6 +111,18 @@ unfolding select
 count-agree test other [] h = refl
 count-agree test other (b ∷ l) h =
     omega (arith, count-cons test b l, count-cons other b l, count-agree test other l (λ a m. h a (List·Memᴰ·tail m)), ap bit (h b (List·Memᴰ·head refl)))
+
+pub any-agree : {A : Type 0} (test other : A → Bool) (l : List A) → ((a : A) → List·Memᴰ a l → test a ≡ other a) → any test l ≡ any other l
+unfolding any
+any-agree test other [] h = refl
+any-agree test other (a ∷ l) h = rw (h a (List·Memᴰ·head refl), any-agree test other l (λ b m. h b (List·Memᴰ·tail m)))
+
+-- a number is in a list where a test for it finds it
+pub any-eqb : (n : ℕ) (l : List ℕ) → any (eqb n) l ≡ true → List·Memᴰ n l
+any-eqb n l e = let (a, m, q) = any-mem (eqb n) l e in Memᴰ·cast (eqb-true n a q) m
+
+pub eqb-any : {n : ℕ} {l : List ℕ} → List·Memᴰ n l → any (eqb n) l ≡ true
+eqb-any {n} m = mem-any (eqb n) m (eq-eqb n n refl)
 
 -- ---- through a function
 module _ {A B : Type 0} (f : A → B) where
@@ -230,3 +244,8 @@ module _ {A : Type 0} (test : A → Bool) where
     go true q e m later = absurd (let z : _≡_ {A = ℕ} 0 1 = cc in omega arith)
     go false q e (List·Memᴰ·head r) later = rw r q
     go false q e (List·Memᴰ·tail n) later = later e n
+
+  pub firstAt-nothing : (at : ℕ) (l : List A) → ((a : A) → List·Memᴰ a l → test a ≡ false) → firstAt test at l ≡ none
+  unfolding firstAt
+  firstAt-nothing at [] h = refl
+  firstAt-nothing at (a ∷ l) h = rw (h a (List·Memᴰ·head refl)) (firstAt-nothing (at + 1) l (λ b m. h b (List·Memᴰ·tail m)))

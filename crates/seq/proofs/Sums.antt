@@ -5,9 +5,10 @@ use mathlib.Core.Bool.{Bool, true, false, _&&_, cond}
 use mathlib.Core.List.{List, [], _∷_, _++_, map, map-append, flatMap, List·Memᴰ, List·Memᴰ·head, List·Memᴰ·tail}
 use native.Mathlib.Omega.{arith}
 use native.Mathlib.Numerals.{add-one}
-use native.Mathlib.Nat.{zero-add, zero-mul, suc-mul, one-mul, add-mul}
+use native.Mathlib.Nat.{zero-add, zero-mul, suc-mul, one-mul, add-mul, le-of-suc-le-suc}
 use lib.Dec.{leb, ltb}
-use lib.ListN.{length, getD, take}
+use lib.ListN.{length, getD, take, drop, set, length-take, length-drop}
+use lib.Seq.{take-set-lt, drop-set-add, getD-take, getD-drop}
 use borrow.Author.Tests.{le-leb, lt-leb, lt-ltb, le-ltb}
 use Rattle.seq.specs.Lists.{range, upTo, sum, select, count}
 use Rattle.seq.proofs.Tests.{bit}
@@ -125,3 +126,21 @@ sum-positions l (suc n) h =
 
 pub sum-first : (l : List ℕ) (n : ℕ) → n ≤ length l → sum (map (λ i. getD l i 0) (upTo n)) ≤ sum l
 sum-first l n h = omega (arith, sum-positions l n h, sum-within l n)
+
+-- ---- where one of the list grows by d
+sum-set : (l : List ℕ) (j d : ℕ) → j < length l → sum (set l j (getD l j 0 + d)) ≡ sum l + d
+unfolding sum
+sum-set [] j d h = absurd (omega arith)
+sum-set (x ∷ xs) zero d h = omega arith
+sum-set (x ∷ xs) (suc j) d h = omega (arith, sum-set xs j d (le-of-suc-le-suc h))
+
+-- k of the list from lo on, the one at lo + j among them
+pub sum-part-set : (l : List ℕ) (lo k j d : ℕ) → j < k → lo + k ≤ length l
+    → sum (take k (drop lo (set l (lo + j) (getD l (lo + j) 0 + d)))) ≡ sum (take k (drop lo l)) + d
+sum-part-set l lo k j d h b =
+    let inside : j < length (take k (drop lo l)) = rw (length-take, length-drop) (omega arith) in
+    let v : getD l (lo + j) 0 ≡ getD (take k (drop lo l)) j 0 = sym (getD-take k (drop lo l) j 0 h ∙ getD-drop lo l j 0) in
+    ap (λ (l : List ℕ). sum (take k l)) (drop-set-add lo l j (getD l (lo + j) 0 + d))
+    ∙ ap sum (take-set-lt k (drop lo l) j (getD l (lo + j) 0 + d) h)
+    ∙ ap (λ (a : ℕ). sum (set (take k (drop lo l)) j (a + d))) v
+    ∙ sum-set (take k (drop lo l)) j d inside

@@ -1,7 +1,7 @@
 -- Laws of tests: what a passed `&&` or `||` tells, and a test as the number 0 or 1.
 use Prim.Native.Nat.{ℕ, _≤_, _<_}
 use mathlib.Core.Path.{_≡_, refl, sym}
-use mathlib.Core.Bool.{Bool, true, false, _&&_, _||_}
+use mathlib.Core.Bool.{Bool, true, false, _&&_, _||_, cond}
 use mathlib.Core.Logic.{_⊎_, inl, inr, ⊎-elim}
 use native.Mathlib.Omega.{arith}
 use lib.Dec.{eqb, leb, ltb}
@@ -9,6 +9,26 @@ use borrow.Author.Tests.{leb-true, leb-false, ltb-true, eqb-true, lt-ltb, eq-eqb
 
 pub true-not-false : true ≡ false → ⊥
 true-not-false e = let z : _≡_ {A = ℕ} 0 1 = cc in omega arith
+
+-- a test passes or fails
+pub bool-cases : (t : Bool) → (t ≡ true) ⊎ (t ≡ false)
+bool-cases true = inl refl
+bool-cases false = inr refl
+
+-- two tests that pass together are the same
+pub bool-same : (s t : Bool) → (s ≡ true → t ≡ true) → (t ≡ true → s ≡ true) → s ≡ t
+bool-same true t there back = sym (there refl)
+bool-same false true there back = back refl
+bool-same false false there back = refl
+
+-- what holds of both holds of the one that a test picks
+pub cond-either : {A : Type 0} (P : A → Type 0) (t : Bool) {a b : A} → P a → P b → P (cond t a b)
+cond-either P true p q = p
+cond-either P false p q = q
+
+pub and-false : (t : Bool) → t && false ≡ false
+and-false true = refl
+and-false false = refl
 
 pub both-true : (t u : Bool) → t && u ≡ true → (t ≡ true) × (u ≡ true)
 both-true true u e = (refl, e)

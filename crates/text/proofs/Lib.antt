@@ -9,3 +9,6 @@ pub mod Utf8Laws
 pub mod KnownLaws
 pub mod PlainLaws
 pub mod PartLaws
+-- Lines put together: the columns that bytes take one after another, a rule byte by byte.
+pub mod SpanLaws
+pub mod RuleBytes

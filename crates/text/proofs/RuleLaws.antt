@@ -89,7 +89,7 @@ pub leading-colon : (s : List ℕ) → getD s 0 0 ≡ colon → take (length s -
 leading-colon [] h = absurd (omega arith)
 leading-colon (b ∷ bs) h = part-to-end (b ∷ bs) 1 ∙ rw (eq-eqb b colon h)
 
-drop-colon : (s : List ℕ) → dropTrailingColon (s ++ colon ∷ []) ≡ s
+pub drop-colon : (s : List ℕ) → dropTrailingColon (s ++ colon ∷ []) ≡ s
 unfolding dropTrailingColon
 drop-colon [] = refl
 drop-colon (a ∷ []) = refl

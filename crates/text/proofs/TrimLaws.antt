@@ -1,14 +1,15 @@
 -- Laws of specs/Trim.antt.
-use Prim.Native.Nat.{ℕ, suc, _-_, _≤_, _<_}
+use Prim.Native.Nat.{ℕ, zero, suc, _-_, _≤_, _<_}
 use mathlib.Core.Path.{_≡_, refl, sym, ap, _∙_}
 use mathlib.Core.Bool.{Bool, true, false, not, cond}
 use mathlib.Core.List.{List, [], _∷_, _++_, append-nil, append-assoc}
 use native.Mathlib.Omega.{arith}
-use lib.ListN.{length, take, getD}
+use lib.ListN.{length, take, getD, replicate}
 use borrow.Author.Tests.{not-true, not-false}
 use Rattle.seq.proofs.Tests.{both-true}
 use Rattle.seq.specs.Lists.{all}
 use Rattle.seq.proofs.ListsLaws.{take-last}
+use Rattle.text.specs.Characters.{space}
 use Rattle.text.specs.Trim.{blank, beforeTrimmed, trimEnd}
 
 -- ---- at the last byte
@@ -29,6 +30,14 @@ trim-blanks s [] h = rw append-nil
 trim-blanks s (b ∷ t) h =
     let (here, later) = both-true (blank b) (all blank t) h in
     ap trimEnd (sym (append-assoc s (b ∷ []) t)) ∙ trim-blanks (s ++ b ∷ []) t later ∙ trim-blank s b here
+
+spaces-blank : (k : ℕ) → all blank (replicate k space) ≡ true
+unfolding all
+spaces-blank zero = refl
+spaces-blank (suc k) = spaces-blank k
+
+pub trim-spaces : (s : List ℕ) (k : ℕ) → trimEnd (s ++ replicate k space) ≡ trimEnd s
+trim-spaces s k = trim-blanks s (replicate k space) (spaces-blank k)
 
 -- A scan from the end, with all from n on found blank: it stops at a byte that is not, goes on, or has come to the start
 module _ (s : List ℕ) (n : ℕ) (scanned : trimEnd s ≡ trimEnd (take n s)) where

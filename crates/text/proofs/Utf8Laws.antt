@@ -3,7 +3,7 @@ use Prim.Native.Nat.{ℕ, zero, suc, _+_, _-_, _^_, _≤_, _<_}
 use mathlib.Core.Path.{_≡_, refl, sym, ap, _∙_}
 use mathlib.Core.Logic.{_⊎_, inl, inr, ⊎-elim}
 use mathlib.Core.Bool.{Bool, true, false, _&&_, cond}
-use mathlib.Core.List.{List, [], _∷_}
+use mathlib.Core.List.{List, [], _∷_, List·Memᴰ, List·Memᴰ·head, List·Memᴰ·tail}
 use native.Mathlib.Nat.{add-zero, eq-or-lt-of-le}
 use native.Mathlib.Omega.{arith}
 use lib.Dec.{leb, ltb}
@@ -280,3 +280,10 @@ module _ (s : List ℕ) (at : ℕ) (d : Decoded) (is : d ≡ character (drop at 
 pub well-to-the-end : (s : List ℕ) (at : ℕ) → at ≤ length s → length s ≤ at → wellFormed s ≡ wellFrom 0 (drop at s) → true ≡ wellFormed s
 unfolding wellFrom
 well-to-the-end s at low high so-far = sym (so-far ∙ rw (drop-of-length-le s high))
+
+-- a line of lines that are well formed
+pub well-line : (ls : List (List ℕ)) → ((l : List ℕ) → List·Memᴰ l ls → wellFormed l ≡ true) → (i : ℕ) → wellFormed (getD ls i []) ≡ true
+unfolding wellFrom
+well-line [] h i = refl
+well-line (l ∷ ls) h zero = h l (List·Memᴰ·head refl)
+well-line (l ∷ ls) h (suc i) = well-line ls (λ k m. h k (List·Memᴰ·tail m)) i

@@ -1,4 +1,5 @@
-// The public calls for C and Rust: slices as pointer and length, answers as one struct.
+// The public calls for C and Rust: slices as pointer and length, answers as one struct. In C the
+// arrays must be valid for their lengths and aligned, and one that is written may overlap no other.
 pub mod cell_reply;
 pub mod cells;
 pub mod cut_reply;

@@ -1,4 +1,4 @@
--- `cell_answer::finish_cell` meets its contract: 13, 12, or the cut lines written.
+-- `cell::finish_cell` meets its contract: 13, 12, or the cut lines written.
 use mir.Facts.{fits-8-64}
 use native.Mathlib.Omega.{arith}
 use borrow.Author.Needs.{needs}

@@ -1,4 +1,4 @@
--- `cut::bad_range` meets its contract: from its calls.
+-- `fragments::bad_range` meets its contract: from its calls.
 use Rattle.grid.specs.CutCall.{badRange}
 use borrow.Author.Needs.{needs}
 use Rattle.fragments.proofs.bad_range.Statement.{statement}

@@ -1,4 +1,4 @@
--- `cut::cell_fragment` meets its contract: each return by its law.
+-- `fragments::cell_fragment` meets its contract: each return by its law.
 use borrow.Author.Needs.{needs}
 use Rattle.fragments.proofs.CallLaws.{refused-13, refused-2, checked, low-byte, accepted}
 use Rattle.fragments.proofs.cell_fragment.Statement.{statement}

@@ -1,4 +1,4 @@
--- `cut::too_large` meets its contract: by computing.
+-- `fragments::too_large` meets its contract: by computing.
 use mathlib.Core.Path.{refl}
 use Rattle.grid.specs.CutCall.{cutTooLarge}
 use Rattle.fragments.proofs.too_large.Statement.{statement}

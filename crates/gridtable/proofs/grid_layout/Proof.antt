@@ -1,4 +1,4 @@
--- `abi::grid_layout` meets its contract: the reply to what the call answers.
+-- `gridtable::grid_layout` meets its contract: the reply to what the call answers.
 use Rattle.gridtable.proofs.ReplyLaws.{reply-told}
 use borrow.Author.Needs.{needs}
 use Rattle.gridtable.proofs.grid_layout.Statement.{statement}

@@ -1,4 +1,4 @@
--- `lister::list` meets its contract: each return by what splitting tells.
+-- `layout_listing::list` meets its contract: each return by what splitting tells.
 use Rattle.printing.proofs.PutLaws.{prints-as}
 use Rattle.input_lines.proofs.SheetLaws.{lines-fit, bytes-fit, parts-agree}
 use Rattle.layout_listing.proofs.InputLaws.{large-listed, held-listed}

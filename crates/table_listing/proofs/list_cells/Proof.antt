@@ -1,4 +1,4 @@
--- `cell_lister::list_cells` meets its contract: each return by what splitting tells.
+-- `table_listing::list_cells` meets its contract: each return by what splitting tells.
 use Rattle.table_listing.proofs.InputLaws.{large-listed, held-listed}
 use Rattle.printing.proofs.PutLaws.{prints-as}
 use Rattle.input_lines.proofs.SheetLaws.{lines-fit, bytes-fit, parts-agree}

@@ -1,4 +1,4 @@
--- `cell_cuts::write_cuts` meets its contract. The invariant: the cuts of the inner lines above y are written, up to entry i.
+-- `cell::cuts::write_cuts` meets its contract. The invariant: the cuts of the inner lines above y are written, up to entry i.
 use Prim.Native.Nat.{_*_, _-_, _≤_, _<_}
 use mathlib.Core.Path.{_≡_}
 use native.Mathlib.Omega.{arith}

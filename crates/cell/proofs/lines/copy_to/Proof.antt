@@ -1,4 +1,4 @@
--- `cell_lines::copy_to` meets its contract. The invariant: the first i bytes are copied.
+-- `cell::lines::copy_to` meets its contract. The invariant: the first i bytes are copied.
 use Prim.Native.Nat.{_-_, _≤_}
 use mathlib.Core.Path.{_≡_}
 use native.Mathlib.Omega.{arith}

@@ -1,4 +1,4 @@
--- `cell_lines::write_lines` meets its contract. The invariant: the first i lines are written, up to byte `end`.
+-- `cell::lines::write_lines` meets its contract. The invariant: the first i lines are written, up to byte `end`.
 use Prim.Native.Nat.{_-_, _≤_}
 use native.Mathlib.Omega.{arith}
 use borrow.Author.Needs.{needs}

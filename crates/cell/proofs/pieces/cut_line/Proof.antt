@@ -1,4 +1,4 @@
--- `pieces::cut_line` meets its contract: the piece is a part of the whole text.
+-- `cell::pieces::cut_line` meets its contract: the piece is a part of the whole text.
 use borrow.Author.Needs.{needs}
 use mir.Facts.{fits-16-64}
 use Rattle.cell.proofs.pieces.PieceLaws.{piece-inside, piece-end-fits, piece-start-fits, piece-cut}

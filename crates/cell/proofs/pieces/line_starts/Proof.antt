@@ -1,4 +1,4 @@
--- `pieces::line_starts` meets its contract. The invariant: the first y lines are noted, and `at` is where line y starts.
+-- `cell::pieces::line_starts` meets its contract. The invariant: the first y lines are noted, and `at` is where line y starts.
 use Prim.Native.Nat.{_-_, _≤_}
 use lib.ListN.{length}
 use native.Mathlib.Omega.{arith}

@@ -1,4 +1,4 @@
--- `pieces::measure` meets its contract. The invariant: the first k cells are counted.
+-- `cell::pieces::measure` meets its contract. The invariant: the first k cells are counted.
 use Prim.Native.Nat.{_-_, _≤_}
 use mir.Facts.{fits-8-64}
 use native.Mathlib.Omega.{arith}

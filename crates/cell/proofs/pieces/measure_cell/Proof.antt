@@ -1,4 +1,4 @@
--- `pieces::measure_cell` meets its contract. The invariant: the lines above y are counted.
+-- `cell::pieces::measure_cell` meets its contract. The invariant: the lines above y are counted.
 use Prim.Native.Nat.{_-_, _≤_, _<_}
 use mathlib.Core.Logic.{⊎-elim}
 use native.Mathlib.Omega.{arith}

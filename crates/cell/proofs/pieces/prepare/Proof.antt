@@ -1,4 +1,4 @@
--- `pieces::prepare` meets its contract: from its two calls.
+-- `cell::pieces::prepare` meets its contract: from its two calls.
 use borrow.Author.Needs.{needs}
 use Rattle.cell.proofs.pieces.TotalLaws.{measurable, prepared}
 use Rattle.cell.proofs.pieces.prepare.Statement.{statement}

@@ -1,4 +1,4 @@
--- `cut_part::after_first` meets its contract: each return by its law.
+-- `fragments::part::after_first` meets its contract: each return by its law.
 use Rattle.fragments.proofs.part.FirstLaws.{none-begins, space-begins, other-begins, narrow-tab-begins, wide-tab-begins}
 use borrow.Author.Needs.{needs}
 use Rattle.fragments.proofs.part.after_first.Statement.{statement}

@@ -1,4 +1,4 @@
--- `cut_part::cut_part` meets its contract: from its calls.
+-- `fragments::part::cut_part` meets its contract: from its calls.
 use borrow.Author.Needs.{needs}
 use Rattle.fragments.proofs.part.PartLaws.{pieced}
 use Rattle.fragments.proofs.part.cut_part.Statement.{statement}

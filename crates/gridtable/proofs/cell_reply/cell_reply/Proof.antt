@@ -1,4 +1,4 @@
--- `replies::cell_reply::cell_reply` meets its contract: each case of the answer has its reply.
+-- `gridtable::cell_reply::cell_reply` meets its contract: each case of the answer has its reply.
 use Rattle.gridtable.proofs.CellReplyLaws.{cell-reply-accepted, cell-reply-refused}
 use borrow.Author.Needs.{needs}
 use Rattle.gridtable.proofs.cell_reply.cell_reply.Statement.{statement}

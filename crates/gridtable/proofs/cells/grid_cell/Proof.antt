@@ -1,4 +1,4 @@
--- `abi::cells::grid_cell` meets its contract: the reply to what the call answers.
+-- `gridtable::cells::grid_cell` meets its contract: the reply to what the call answers.
 use Rattle.gridtable.proofs.CellReplyLaws.{cell-reply-told}
 use borrow.Author.Needs.{needs}
 use Rattle.gridtable.proofs.cells.grid_cell.Statement.{statement}

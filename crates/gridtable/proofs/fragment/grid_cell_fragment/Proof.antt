@@ -1,4 +1,4 @@
--- `abi::fragment::grid_cell_fragment` meets its contract: the reply to what the call answers.
+-- `gridtable::fragment::grid_cell_fragment` meets its contract: the reply to what the call answers.
 use Rattle.gridtable.proofs.CutReplyLaws.{cut-reply-told}
 use borrow.Author.Needs.{needs}
 use Rattle.gridtable.proofs.fragment.grid_cell_fragment.Statement.{statement}

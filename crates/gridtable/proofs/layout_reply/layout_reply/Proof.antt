@@ -1,4 +1,4 @@
--- `replies::layout_reply::layout_reply` meets its contract: each case of the answer has its reply.
+-- `gridtable::layout_reply::layout_reply` meets its contract: each case of the answer has its reply.
 use Rattle.gridtable.proofs.ReplyLaws.{reply-accepted, reply-refused}
 use borrow.Author.Needs.{needs}
 use Rattle.gridtable.proofs.layout_reply.layout_reply.Statement.{statement}

@@ -1,4 +1,4 @@
--- `replies::table_reply::table_reply` meets its contract: each case of the answer has its reply.
+-- `gridtable::table_reply::table_reply` meets its contract: each case of the answer has its reply.
 use Rattle.gridtable.proofs.TableReplyLaws.{table-reply-accepted, table-reply-refused}
 use borrow.Author.Needs.{needs}
 use Rattle.gridtable.proofs.table_reply.table_reply.Statement.{statement}

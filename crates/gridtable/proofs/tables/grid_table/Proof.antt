@@ -1,4 +1,4 @@
--- `abi::tables::grid_table` meets its contract: the reply to what the call answers.
+-- `gridtable::tables::grid_table` meets its contract: the reply to what the call answers.
 use Rattle.gridtable.proofs.TableReplyLaws.{table-reply-told}
 use borrow.Author.Needs.{needs}
 use Rattle.gridtable.proofs.tables.grid_table.Statement.{statement}

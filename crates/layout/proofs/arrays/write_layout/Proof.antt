@@ -1,4 +1,4 @@
--- `layout_arrays::write_layout` meets its contract: the four writers in turn, each on its own array.
+-- `layout::arrays::write_layout` meets its contract: the four writers in turn, each on its own array.
 use borrow.Author.Needs.{needs}
 use Rattle.layout.proofs.arrays.write_layout.Statement.{statement}
 use Rattle.layout.proofs.arrays.write_layout.Tie as tie

@@ -1,4 +1,4 @@
--- `bounds::col_bounds` meets its contract: the lines collected from the marked edges.
+-- `layout::bounds::col_bounds` meets its contract: the lines collected from the marked edges.
 use Rattle.layout.proofs.bounds.EdgeLaws.{columns-collected}
 use borrow.Author.Needs.{needs}
 use Rattle.layout.proofs.bounds.col_bounds.Statement.{statement}

@@ -1,4 +1,4 @@
--- `bounds::collect` meets its contract. The invariant: the marked numbers below x are collected.
+-- `layout::bounds::collect` meets its contract. The invariant: the marked numbers below x are collected.
 use Prim.Native.Nat.{_-_, _≤_}
 use mathlib.Core.Logic.{⊎-elim}
 use Rattle.representation.specs.Edges.{markedBelow, Collected}

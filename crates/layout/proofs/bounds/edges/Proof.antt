@@ -1,4 +1,4 @@
--- `bounds::edges` meets its contract. The invariant: the edges of the first k rectangles are marked.
+-- `layout::bounds::edges` meets its contract. The invariant: the edges of the first k rectangles are marked.
 use Prim.Native.Nat.{_-_, _≤_}
 use Rattle.representation.specs.Edges.{edgeList, Marks}
 use mir.Facts.{fits-8-64}

@@ -1,4 +1,4 @@
--- `bounds::row_bounds` meets its contract: the lines collected from the marked edges.
+-- `layout::bounds::row_bounds` meets its contract: the lines collected from the marked edges.
 use Rattle.layout.proofs.bounds.EdgeLaws.{rows-collected}
 use borrow.Author.Needs.{needs}
 use Rattle.layout.proofs.bounds.row_bounds.Statement.{statement}

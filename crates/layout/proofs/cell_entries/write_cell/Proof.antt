@@ -1,4 +1,4 @@
--- `cell_entries::write_cell` meets its contract: five stores side by side.
+-- `layout::cell_entries::write_cell` meets its contract: five stores side by side.
 use native.Mathlib.Omega.{arith}
 use lib.ListN.{length-set}
 use Rattle.layout.proofs.cell_entries.CellEntryLaws.{cell-stored}

@@ -1,4 +1,4 @@
--- `cell_entries::write_cells` meets its contract. The invariant: the entries of the first k cells are written.
+-- `layout::cell_entries::write_cells` meets its contract. The invariant: the entries of the first k cells are written.
 use Prim.Native.Nat.{_-_, _≤_}
 use mir.Facts.{fits-sub, fits-8-64}
 use Rattle.representation.proofs.HeldLaws.{top-small, left-small, left-fits, bottom-small, right-small, rows-ordered, columns-ordered}

@@ -1,4 +1,4 @@
--- `cell_entries::count_ranges` meets its contract. The invariant: the ranges of the first k cells are counted.
+-- `layout::range_entries::count_ranges` meets its contract. The invariant: the ranges of the first k cells are counted.
 use Prim.Native.Nat.{_-_, _≤_}
 use mir.Facts.{fits-8-64}
 use Rattle.representation.proofs.HeldLaws.{top-first, some-height}

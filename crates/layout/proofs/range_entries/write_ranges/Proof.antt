@@ -1,4 +1,4 @@
--- `cell_entries::write_ranges` meets its contract. The invariant: the ranges of the first k cells are written, up to entry `at`.
+-- `layout::range_entries::write_ranges` meets its contract. The invariant: the ranges of the first k cells are written, up to entry `at`.
 use Prim.Native.Nat.{_-_, _≤_}
 use mir.Facts.{fits-8-64}
 use Rattle.representation.proofs.HeldLaws.{top-above, top-first, some-height, left-small, bottom-small, right-small}

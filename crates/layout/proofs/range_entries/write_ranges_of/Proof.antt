@@ -1,4 +1,4 @@
--- `range_entries::write_ranges_of` meets its contract. The invariant: the ranges of the inner lines above y are written, up to entry i.
+-- `layout::range_entries::write_ranges_of` meets its contract. The invariant: the ranges of the inner lines above y are written, up to entry i.
 use Prim.Native.Nat.{_+_, _*_, _-_, _≤_, _<_}
 use mathlib.Core.Path.{_≡_}
 use native.Mathlib.Omega.{arith}

@@ -1,4 +1,4 @@
--- `sections::alignment` meets its contract: from its calls.
+-- `layout::sections::alignment` meets its contract: from its calls.
 use mir.Facts.{fits-16-64}
 use Rattle.layout.proofs.sections.PartLaws.{segment-length, next-fits, no-plus, past-end, alignment-found}
 use native.Mathlib.Omega.{arith}

@@ -1,4 +1,4 @@
--- `sections::find_parts` meets its contract: by the number of separators and the last of them.
+-- `layout::sections::find_parts` meets its contract: by the number of separators and the last of them.
 use Rattle.layout.proofs.sections.PartLaws.{no-head, no-part, head-found, one-part, foot-found, no-foot}
 use native.Mathlib.Omega.{arith}
 use borrow.Author.Needs.{needs}

@@ -1,4 +1,4 @@
--- `sections::section` meets its contract: by the row's place.
+-- `layout::sections::section` meets its contract: by the row's place.
 use Rattle.layout.proofs.sections.PartLaws.{in-head, in-foot, in-body}
 use Rattle.layout.proofs.sections.section.Statement.{statement}
 use Rattle.layout.proofs.sections.section.Tie as tie

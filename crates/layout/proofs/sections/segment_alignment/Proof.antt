@@ -1,4 +1,4 @@
--- `sections::segment_alignment` meets its contract: by the first and the last byte.
+-- `layout::sections::segment_alignment` meets its contract: by the first and the last byte.
 use Rattle.layout.proofs.sections.PartLaws.{empty-segment, both-colons, left-colon, right-colon, no-colon}
 use native.Mathlib.Omega.{arith}
 use Rattle.layout.proofs.sections.segment_alignment.Statement.{statement}

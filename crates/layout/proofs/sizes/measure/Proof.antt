@@ -1,4 +1,4 @@
--- `sizes::measure` meets its contract: what its three callees give, and the tests of 12.
+-- `layout::sizes::measure` meets its contract: what its three callees give, and the tests of 12.
 use borrow.Author.Needs.{needs}
 use Rattle.layout.proofs.sizes.SizedLaws.{few-ranges}
 use Rattle.layout.proofs.sizes.measure.Statement.{statement}

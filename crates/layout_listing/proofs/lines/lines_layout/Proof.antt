@@ -1,4 +1,4 @@
--- `layout_listing::lines_layout` meets its contract: what the layout call tells.
+-- `layout_listing::lines::lines_layout` meets its contract: what the layout call tells.
 use Rattle.layout_listing.proofs.lines.ListedLaws.{layout-told}
 use borrow.Author.Needs.{needs}
 use Rattle.layout_listing.proofs.lines.lines_layout.Statement.{statement}

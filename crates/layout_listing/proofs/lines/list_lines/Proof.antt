@@ -1,4 +1,4 @@
--- `layout_listing::list_lines` meets its contract: each return by what the answer tells.
+-- `layout_listing::lines::list_lines` meets its contract: each return by what the answer tells.
 use Rattle.layout_listing.proofs.lines.ListedLaws.{few-told, table-listed, refused-listed}
 use borrow.Author.Needs.{needs}
 use Rattle.layout_listing.proofs.lines.list_lines.Statement.{statement}

@@ -1,4 +1,4 @@
--- `layout_printing::alignment_letter` meets its contract.
+-- `layout_listing::print::alignment_letter` meets its contract.
 use Rattle.layout_listing.proofs.print.LineLaws.{letter-left, letter-right, letter-center, letter-none}
 use Rattle.layout_listing.proofs.print.alignment_letter.Statement.{statement}
 use Rattle.layout_listing.proofs.print.alignment_letter.Tie as tie

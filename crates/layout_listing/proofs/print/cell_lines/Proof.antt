@@ -1,4 +1,4 @@
--- `layout_printing::cell_lines` meets its contract. The invariant: the first i cells are written.
+-- `layout_listing::print::cell_lines` meets its contract. The invariant: the first i cells are written.
 use borrow.Author.Needs.{needs}
 use Prim.Native.Nat.{_+_, _*_, _-_, _≤_}
 use lib.ListN.{length}

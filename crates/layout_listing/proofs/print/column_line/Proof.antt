@@ -1,4 +1,4 @@
--- `layout_printing::column_line` meets its contract.
+-- `layout_listing::print::column_line` meets its contract.
 use Rattle.layout_listing.proofs.print.LineLaws.{column-put}
 use borrow.Author.Needs.{needs}
 use Rattle.layout_listing.proofs.print.column_line.Statement.{statement}

@@ -1,4 +1,4 @@
--- `layout_printing::column_lines` meets its contract. The invariant: the first i columns are written.
+-- `layout_listing::print::column_lines` meets its contract. The invariant: the first i columns are written.
 use borrow.Author.Needs.{needs}
 use Prim.Native.Nat.{_+_, _*_, _-_, _≤_}
 use lib.ListN.{length}

@@ -1,4 +1,4 @@
--- `layout_printing::inner_lines` meets its contract.
+-- `layout_listing::print::inner_lines` meets its contract.
 use Rattle.layout_listing.proofs.print.LineLaws.{inner-told}
 use borrow.Author.Needs.{needs}
 use Rattle.layout_listing.proofs.print.inner_lines.Statement.{statement}

@@ -1,4 +1,4 @@
--- `layout_printing::letter` meets its contract.
+-- `layout_listing::print::letter` meets its contract.
 use Rattle.layout_listing.proofs.print.LineLaws.{letter-put}
 use borrow.Author.Needs.{needs}
 use Rattle.layout_listing.proofs.print.letter.Statement.{statement}

@@ -1,4 +1,4 @@
--- `layout_printing::row_line` meets its contract.
+-- `layout_listing::print::row_line` meets its contract.
 use Rattle.layout_listing.proofs.print.LineLaws.{row-put}
 use borrow.Author.Needs.{needs}
 use Rattle.layout_listing.proofs.print.row_line.Statement.{statement}

@@ -1,4 +1,4 @@
--- `layout_printing::row_lines` meets its contract. The invariant: the first i rows are written.
+-- `layout_listing::print::row_lines` meets its contract. The invariant: the first i rows are written.
 use borrow.Author.Needs.{needs}
 use Prim.Native.Nat.{_+_, _*_, _-_, _≤_}
 use lib.ListN.{length}

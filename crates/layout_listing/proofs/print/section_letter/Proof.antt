@@ -1,4 +1,4 @@
--- `layout_printing::section_letter` meets its contract.
+-- `layout_listing::print::section_letter` meets its contract.
 use Rattle.layout_listing.proofs.print.LineLaws.{letter-head, letter-foot, letter-body}
 use Rattle.layout_listing.proofs.print.section_letter.Statement.{statement}
 use Rattle.layout_listing.proofs.print.section_letter.Tie as tie

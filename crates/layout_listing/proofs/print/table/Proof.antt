@@ -1,4 +1,4 @@
--- `layout_printing::table` meets its contract.
+-- `layout_listing::print::table` meets its contract.
 use Rattle.layout_listing.proofs.print.LineLaws.{table-put}
 use borrow.Author.Needs.{needs}
 use Rattle.layout_listing.proofs.print.table.Statement.{statement}

@@ -1,4 +1,4 @@
--- `checks::adds_up` meets its contract. The invariant: the lengths add up where those from i on add up to what is left.
+-- `reading::checks::adds_up` meets its contract. The invariant: the lengths add up where those from i on add up to what is left.
 use Prim.Native.Nat.{_-_, _≤_}
 use mathlib.Core.Path.{_≡_}
 use mir.Facts.{fits-16-64}

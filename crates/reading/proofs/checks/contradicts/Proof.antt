@@ -1,4 +1,4 @@
--- `checks::contradicts` meets its contract: from its call.
+-- `reading::checks::contradicts` meets its contract: from its call.
 use Rattle.grid.specs.Flat.{drawingContradicts}
 use borrow.Author.Needs.{needs}
 use Rattle.reading.proofs.checks.contradicts.Statement.{statement}

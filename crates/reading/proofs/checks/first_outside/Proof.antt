@@ -1,4 +1,4 @@
--- `checks::first_outside` meets its contract. The invariant: the lines from y on start at byte `at`, and the search goes on there.
+-- `reading::checks::first_outside` meets its contract. The invariant: the lines from y on start at byte `at`, and the search goes on there.
 use Prim.Native.Nat.{_+_, _-_, _≤_}
 use mathlib.Core.Path.{_≡_}
 use mathlib.Core.Bool.{not}

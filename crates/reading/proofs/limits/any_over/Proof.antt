@@ -1,4 +1,4 @@
--- `limits::any_over` meets its contract. The invariant: any number is over the limit where any from i on is.
+-- `reading::limits::any_over` meets its contract. The invariant: any number is over the limit where any from i on is.
 use Prim.Native.Nat.{_-_, _≤_}
 use mathlib.Core.Path.{_≡_}
 use lib.ListN.{length, drop}

@@ -1,4 +1,4 @@
--- `limits::space_short` meets its contract: by computing.
+-- `reading::limits::space_short` meets its contract: by computing.
 use mathlib.Core.Path.{refl}
 use Rattle.grid.specs.LayoutCall.{spaceShort}
 use Rattle.reading.proofs.limits.space_short.Statement.{statement}

@@ -1,4 +1,4 @@
--- `limits::too_large` meets its contract: from its calls.
+-- `reading::limits::too_large` meets its contract: from its calls.
 use Rattle.reading.proofs.limits.LimitLaws.{many-lines, other-limits}
 use borrow.Author.Needs.{needs}
 use Rattle.reading.proofs.limits.too_large.Statement.{statement}

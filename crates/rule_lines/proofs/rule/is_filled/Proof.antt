@@ -1,4 +1,4 @@
--- `rule::is_filled` meets its contract. The invariant: the segment is filled where the bytes from i on are.
+-- `rule_lines::rule::is_filled` meets its contract. The invariant: the segment is filled where the bytes from i on are.
 use Prim.Native.Nat.{_-_, _≤_}
 use mathlib.Core.Path.{_≡_}
 use borrow.Author.Needs.{needs}

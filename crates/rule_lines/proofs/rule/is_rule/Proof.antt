@@ -1,4 +1,4 @@
--- `rule::is_rule` meets its contract. The invariant: the line is a rule where what is left is closed segments.
+-- `rule_lines::rule::is_rule` meets its contract. The invariant: the line is a rule where what is left is closed segments.
 use Prim.Native.Nat.{_≤_}
 use mathlib.Core.Path.{_≡_}
 use borrow.Author.Needs.{needs}

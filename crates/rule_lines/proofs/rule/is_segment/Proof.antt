@@ -1,4 +1,4 @@
--- `rule::is_segment` meets its contract: from its three calls.
+-- `rule_lines::rule::is_segment` meets its contract: from its three calls.
 use Rattle.text.specs.Rule.{isSegment}
 use borrow.Author.Needs.{needs}
 use Rattle.rule_lines.proofs.rule.is_segment.Statement.{statement}

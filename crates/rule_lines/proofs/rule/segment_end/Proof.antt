@@ -1,4 +1,4 @@
--- `rule::segment_end` meets its contract. The invariant: no `+` was passed, so what is left to count starts at i.
+-- `rule_lines::rule::segment_end` meets its contract. The invariant: no `+` was passed, so what is left to count starts at i.
 use Prim.Native.Nat.{_+_, _-_, _≤_}
 use mathlib.Core.Path.{_≡_}
 use borrow.Author.Needs.{needs}

@@ -1,4 +1,4 @@
--- `rule::strip_leading_colon` meets its contract: by the first byte.
+-- `rule_lines::rule::strip_leading_colon` meets its contract: by the first byte.
 use Rattle.text.proofs.RuleLaws.{empty-no-leading-colon, leading-colon, no-leading-colon}
 use borrow.Author.Needs.{needs}
 use Rattle.rule_lines.proofs.rule.strip_leading_colon.Statement.{statement}

@@ -1,4 +1,4 @@
--- `rule::strip_trailing_colon` meets its contract: by the last byte.
+-- `rule_lines::rule::strip_trailing_colon` meets its contract: by the last byte.
 use native.Mathlib.Nat.{sub-le}
 use lib.Seq.{length-take-le}
 use Rattle.text.proofs.RuleLaws.{empty-no-trailing-colon, no-trailing-colon, trailing-colon}

@@ -1,4 +1,4 @@
--- `glyphs::fill_plain` meets its contract: the invariant: the bytes before i are written.
+-- `slots::glyphs::fill_plain` meets its contract: the invariant: the bytes before i are written.
 use Prim.Native.Nat.{_-_}
 use borrow.Author.Needs.{needs}
 use lib.ListN.{length}

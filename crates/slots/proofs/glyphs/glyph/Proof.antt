@@ -1,4 +1,4 @@
--- `glyphs::glyph` meets its contract: by the code's tests in their order.
+-- `slots::glyphs::glyph` meets its contract: by the code's tests in their order.
 use Rattle.slots.proofs.glyphs.GlyphLaws.{glyph-plus, glyph-dash, glyph-pipe, glyph-other}
 use Rattle.slots.proofs.glyphs.glyph.Statement.{statement}
 use Rattle.slots.proofs.glyphs.glyph.Tie as tie

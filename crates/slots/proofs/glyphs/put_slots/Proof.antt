@@ -1,4 +1,4 @@
--- `glyphs::put_slots` meets its contract: the invariant: i entries are written in each array.
+-- `slots::glyphs::put_slots` meets its contract: the invariant: i entries are written in each array.
 use Prim.Native.Nat.{_-_, _≤_}
 use borrow.Author.Needs.{needs}
 use Rattle.grid.specs.Slots.{glyphOf}

@@ -1,4 +1,4 @@
--- `line_slots::fill_decoded` meets its contract: the invariant: the characters before byte are written, in n slots.
+-- `slots::line::fill_decoded` meets its contract: the invariant: the characters before byte are written, in n slots.
 use Prim.Native.Nat.{_-_}
 use borrow.Author.Needs.{needs}
 use lib.ListN.{length}

@@ -1,4 +1,4 @@
--- `line_slots::fill_line` meets its contract: a plain line has a slot for each byte.
+-- `slots::line::fill_line` meets its contract: a plain line has a slot for each byte.
 use borrow.Author.Needs.{needs}
 use Rattle.slots.proofs.line.PlainLaws.{plain-other-width, plain-filled}
 use Rattle.slots.proofs.line.fill_line.Statement.{statement}

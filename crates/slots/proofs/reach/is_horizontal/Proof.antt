@@ -1,4 +1,4 @@
--- `reach::is_horizontal` meets its contract: the glyph's code is one of two.
+-- `slots::reach::is_horizontal` meets its contract: the glyph's code is one of two.
 use Rattle.slots.proofs.reach.ReachLaws.{horizontal-code}
 use Rattle.slots.proofs.reach.is_horizontal.Statement.{statement}
 use Rattle.slots.proofs.reach.is_horizontal.Tie as tie

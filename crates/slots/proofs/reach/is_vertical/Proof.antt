@@ -1,4 +1,4 @@
--- `reach::is_vertical` meets its contract: the glyph's code is one of two.
+-- `slots::reach::is_vertical` meets its contract: the glyph's code is one of two.
 use Rattle.slots.proofs.reach.ReachLaws.{vertical-code}
 use Rattle.slots.proofs.reach.is_vertical.Statement.{statement}
 use Rattle.slots.proofs.reach.is_vertical.Tie as tie

@@ -1,4 +1,4 @@
--- `reach::reach_down` meets its contract: the invariant: the lines from y on are written.
+-- `slots::reach::reach_down` meets its contract: the invariant: the lines from y on are written.
 use borrow.Author.Needs.{needs}
 use Rattle.slots.proofs.reach.ReachLaws.{DownRows, nothing-down, columns-start, down-room, columns-next, columns-end}
 use Rattle.slots.proofs.reach.reach_down.Statement.{statement}

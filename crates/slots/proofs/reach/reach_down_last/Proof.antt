@@ -1,4 +1,4 @@
--- `reach::reach_down_last` meets its contract: the invariant: the first x slots of line y are written.
+-- `slots::reach::reach_down_last` meets its contract: the invariant: the first x slots of line y are written.
 use Prim.Native.Nat.{_-_, _≤_}
 use borrow.Author.Needs.{needs}
 use Rattle.slots.proofs.reach.ReachLaws.{LastSoFar, last-starts, last-next, last-ends}

@@ -1,4 +1,4 @@
--- `reach::reach_down_line` meets its contract: the invariant: the first x slots of line y are written, and no line below it.
+-- `slots::reach::reach_down_line` meets its contract: the invariant: the first x slots of line y are written, and no line below it.
 use Prim.Native.Nat.{_-_, _≤_}
 use borrow.Author.Needs.{needs}
 use Rattle.slots.specs.Reaching.{LineDown}

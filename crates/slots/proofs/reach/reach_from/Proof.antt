@@ -1,4 +1,4 @@
--- `reach::reach_from` meets its contract: by the test's two outcomes.
+-- `slots::reach::reach_from` meets its contract: by the test's two outcomes.
 use borrow.Author.Needs.{needs}
 use Rattle.slots.proofs.reach.ReachLaws.{step-on, step-off}
 use Rattle.slots.proofs.reach.reach_from.Statement.{statement}

@@ -1,4 +1,4 @@
--- `reach::reach_right` meets its contract: the invariant: the lines above y are written.
+-- `slots::reach::reach_right` meets its contract: the invariant: the lines above y are written.
 use Prim.Native.Nat.{_-_}
 use borrow.Author.Needs.{needs}
 use Rattle.slots.proofs.reach.ReachLaws.{RightRows, rows-start, right-room, rows-next, rows-end}

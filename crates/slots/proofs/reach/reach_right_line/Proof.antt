@@ -1,4 +1,4 @@
--- `reach::reach_right_line` meets its contract: the invariant: the columns from x on are written, and last and goes_on are those of column x.
+-- `slots::reach::reach_right_line` meets its contract: the invariant: the columns from x on are written, and last and goes_on are those of column x.
 use borrow.Author.Needs.{needs}
 use Rattle.slots.proofs.reach.ReachLaws.{RightSoFar, right-starts, last-fits, right-next, right-ends}
 use Rattle.slots.proofs.reach.reach_right_line.Statement.{statement}

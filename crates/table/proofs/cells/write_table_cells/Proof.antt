@@ -1,4 +1,4 @@
--- `table_entries::write_table_cells` meets its contract. The invariant: the entries of the first k cells are written, whatever the array counts.
+-- `table::cells::write_table_cells` meets its contract. The invariant: the entries of the first k cells are written, whatever the array counts.
 use Prim.Native.Nat.{_-_, _≤_}
 use native.Mathlib.Omega.{arith}
 use mir.Facts.{fits-sub, fits-8-16, fits-8-64}

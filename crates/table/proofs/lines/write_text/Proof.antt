@@ -1,4 +1,4 @@
--- `table_text::write_text` meets its contract. The invariant: the lines of the first k cells are written, up to `line` and `byte`.
+-- `table::lines::write_text` meets its contract. The invariant: the lines of the first k cells are written, up to `line` and `byte`.
 use Prim.Native.Nat.{_-_, _≤_}
 use mir.Facts.{fits-8-64}
 use native.Mathlib.Omega.{arith}

@@ -1,4 +1,4 @@
--- `table_entries::write_sections` meets its contract. The invariant: the sections of the first k rows are written.
+-- `table::sections::write_sections` meets its contract. The invariant: the sections of the first k rows are written.
 use Prim.Native.Nat.{_+_, _-_, _≤_}
 use native.Mathlib.Omega.{arith}
 use borrow.Author.Needs.{needs}

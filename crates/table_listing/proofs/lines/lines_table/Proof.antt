@@ -1,4 +1,4 @@
--- `table_listing::lines_table` meets its contract: what the table call tells.
+-- `table_listing::lines::lines_table` meets its contract: what the table call tells.
 use Rattle.table_listing.proofs.lines.ListedLaws.{table-told}
 use borrow.Author.Needs.{needs}
 use Rattle.table_listing.proofs.lines.lines_table.Statement.{statement}

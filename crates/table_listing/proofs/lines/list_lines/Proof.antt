@@ -1,4 +1,4 @@
--- `table_listing::list_lines` meets its contract: each return by what the answer tells.
+-- `table_listing::lines::list_lines` meets its contract: each return by what the answer tells.
 use Prim.Native.Nat.{_≤_}
 use Rattle.table_listing.proofs.lines.ListedLaws.{few-told, table-listed, refused-listed, five-fits, parts-small}
 use borrow.Author.Needs.{needs}

@@ -1,4 +1,4 @@
--- `cell_printing::cell_lines` meets its contract. The invariant: the first i cells are written.
+-- `table_listing::print::cell_lines` meets its contract. The invariant: the first i cells are written.
 use Prim.Native.Nat.{_-_}
 use Rattle.table_listing.proofs.print.CellLaws.{turn-less, Cells, cells-none, used-fits, cells-next, cells-all}
 use borrow.Author.Needs.{needs}

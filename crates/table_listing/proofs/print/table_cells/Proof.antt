@@ -1,4 +1,4 @@
--- `cell_printing::table_cells` meets its contract.
+-- `table_listing::print::table_cells` meets its contract.
 use Rattle.table_listing.proofs.print.CellLaws.{table-put}
 use borrow.Author.Needs.{needs}
 use Rattle.table_listing.proofs.print.table_cells.Statement.{statement}

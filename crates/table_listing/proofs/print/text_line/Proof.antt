@@ -1,4 +1,4 @@
--- `cell_printing::text_line` meets its contract.
+-- `table_listing::print::text_line` meets its contract.
 use Rattle.table_listing.proofs.print.TextLaws.{line-put}
 use borrow.Author.Needs.{needs}
 use Rattle.table_listing.proofs.print.text_line.Statement.{statement}

@@ -1,4 +1,4 @@
--- `cell_printing::text_lines` meets its contract. The invariant: the first i lines are written.
+-- `table_listing::print::text_lines` meets its contract. The invariant: the first i lines are written.
 use Prim.Native.Nat.{_-_}
 use lib.ListN.{length}
 use Rattle.table_listing.proofs.print.TextLaws.{Texts, texts-none, texts-next, texts-all}

@@ -1,4 +1,4 @@
--- `known::known_character` meets its contract: the line is UTF-8 of the set, so the first byte's range says which bytes there are.
+-- `utf8::known::known_character` meets its contract: the line is UTF-8 of the set, so the first byte's range says which bytes there are.
 use mir.Facts.{fits-8-32}
 use borrow.Author.Needs.{needs}
 use Rattle.utf8.proofs.known.known_character.Statement.{statement}

@@ -1,4 +1,4 @@
--- `line_text::is_plain` meets its contract: the invariant: the whole line is plain where the bytes before i and those from i on are.
+-- `utf8::line_text::is_plain` meets its contract: the invariant: the whole line is plain where the bytes before i and those from i on are.
 use Prim.Native.Nat.{_-_, _≤_}
 use mathlib.Core.Path.{_≡_}
 use mathlib.Core.Bool.{_&&_}

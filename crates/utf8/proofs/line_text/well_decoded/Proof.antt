@@ -1,4 +1,4 @@
--- `line_text::well_decoded` meets its contract: the invariant: the line is well formed where the bytes from `at` on are.
+-- `utf8::line_text::well_decoded` meets its contract: the invariant: the line is well formed where the bytes from `at` on are.
 use Prim.Native.Nat.{_≤_, _-_}
 use mathlib.Core.Path.{_≡_}
 use borrow.Author.Needs.{needs}

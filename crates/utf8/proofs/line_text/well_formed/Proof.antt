@@ -1,4 +1,4 @@
--- `line_text::well_formed` meets its contract: a plain line is well formed.
+-- `utf8::line_text::well_formed` meets its contract: a plain line is well formed.
 use borrow.Author.Needs.{needs}
 use Rattle.text.proofs.PlainLaws.{plain-well}
 use Rattle.utf8.proofs.line_text.well_formed.Statement.{statement}

@@ -1,3 +1,4 @@
+-- `characters::span` meets its contract: a tab by its column, another character by its columns.
 use borrow.Author.Needs.{needs}
 use Rattle.text.proofs.CharactersLaws.{tab-spans, other-spans}
 use Rattle.characters.proofs.span.Statement.{statement}

@@ -14,7 +14,7 @@ use Rattle.seq.proofs.Tests.{and-left, and-right, and-intro, refused, bit, le-o
 use Rattle.seq.proofs.Searches.{mem-all, count-cons, count-mem, count-pick}
 use Rattle.seq.proofs.Sorted.{Strict, sorted-tail, sorted-head}
 use Rattle.grid.specs.Values.{TableCell, Table}
-use Rattle.grid.proofs.SameLaws.{eachCell, SamePlaces}
+use Rattle.grid.specs.Same.{eachCell, SamePlaces}
 use Rattle.drawing.specs.GridRules.{comesBefore, staysInside, holdsSquare, keepsRules}
 use Rattle.drawing.proofs.KeptLaws.{Lies, lies-stays, stays-lies, keepsRules-kept}
 

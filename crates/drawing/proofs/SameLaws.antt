@@ -5,8 +5,8 @@ use mathlib.Core.Bool.{true}
 use mathlib.Core.Logic.{_↔_}
 use lib.ListN.{length}
 use Rattle.grid.specs.Values.{Table}
-use Rattle.grid.specs.Same.{Same}
-use Rattle.grid.proofs.SameLaws.{SameLook, same-parts}
+use Rattle.grid.specs.Same.{Same, SameLook}
+use Rattle.grid.proofs.SameLaws.{same-parts}
 use Rattle.drawing.specs.GridRules.{keepsRules}
 use Rattle.drawing.proofs.CellPlaces.{keeps-places}
 

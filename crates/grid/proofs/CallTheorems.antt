@@ -1,19 +1,18 @@
 -- Demand 2 for the calls that read a drawing: layout, table and cell.
 -- Others cite `layout-covers`, `table-covers` and `cell-covers` for an accepted call, and for a refused one `layout-six`, `table-six`,
 -- `cell-six`, `layout-seven`, `table-seven` and `cell-seven`.
-use Prim.Native.Nat.{ℕ, _≤_, _<_}
+use Prim.Native.Nat.{ℕ, _<_}
 use mathlib.Core.Path.{_≡_, sym, ap, _∙_}
-use mathlib.Core.Bool.{Bool, true, _||_}
-use mathlib.Core.List.{List, List·Permᴰ}
+use mathlib.Core.Bool.{Bool, _||_}
+use mathlib.Core.List.{List}
 use native.Mathlib.Omega.{arith}
 use lib.Dec.{leb}
 use lib.ListN.{length, length-map}
 use borrow.Author.Tests.{leb-false}
-use Rattle.seq.specs.Lists.{neighbours}
 use Rattle.grid.specs.Answer.{Answer, accept, refuse, refuseIf, andThen, over}
 use Rattle.grid.specs.Values.{Line, Rect, Layout, Table}
-use Rattle.grid.specs.Slots.{Grid, gridOf}
-use Rattle.grid.specs.Cover.{Cover, ground, precedes, Overfull}
+use Rattle.grid.specs.Slots.{gridOf}
+use Rattle.grid.specs.Cover.{Cover, ground, OnlyCover, Overfull}
 use Rattle.grid.specs.Layout.{cellRead, layoutOf}
 use Rattle.grid.specs.Cut.{tableOf}
 use Rattle.grid.specs.Read.{readRects, readLayout, readTable}
@@ -27,13 +26,6 @@ use Rattle.grid.proofs.ReadLaws.{passed-if, passed-then, refuseIf-later
 use Rattle.grid.proofs.RebuiltLaws.{layout-rebuilt}
 
 -- ---- what is said of an accepted call, and of 6 and 7, whichever call it is
-
--- the rectangles are the cover of the grid: at most 1,024, in order of top, then left, and every other cover is these in another order
-pub record OnlyCover (g : Grid) (rs : List Rect) : Type 0 where
-  pub covers : Cover g rs
-  pub few : length rs ≤ 1024
-  pub ordered : neighbours precedes rs ≡ true
-  pub only : (cs : List Rect) → Cover g cs → List·Permᴰ rs cs
 
 module _ (lines : List Line) where
   readRects-covers : (rs : List Rect) → readRects lines ≡ accept rs → OnlyCover (gridOf lines) rs

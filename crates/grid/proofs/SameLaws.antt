@@ -6,34 +6,8 @@ use mathlib.Core.List.{List, [], _∷_, map, map-map}
 use native.Mathlib.Omega.{arith}
 use lib.ListN.{length, getD, drop, length-map}
 use Rattle.grid.specs.Values.{GridTableColumn, TableCell, Table}
-use Rattle.grid.specs.Same.{drawnLines, normalCell, normal, Same}
+use Rattle.grid.specs.Same.{drawnLines, normalCell, normal, Same, alignmentsOf, eachCell, SameParts}
 use Rattle.grid.specs.declared.TableAlignment.{TableAlignment}
-
-abbrev pub alignmentsOf : Table → List TableAlignment
-alignmentsOf t = map (λ (c : GridTableColumn). c .alignment) (t .columns)
-
--- a part of each cell, in order
-abbrev pub eachCell : {A : Type 0} → (TableCell → A) → Table → List A
-eachCell part t = map part (t .cells)
-
--- Document 01: "Two tables are the same when the number of columns, alignments, sections, cells with their spans, and each cell's
--- trimmed lines without empty last ones agree."
-pub record SameLook (t u : Table) : Type 0 where
-  pub columns : length (t .columns) ≡ length (u .columns)
-  pub alignments : alignmentsOf t ≡ alignmentsOf u
-  pub sections : t .sections ≡ u .sections
-  pub colspans : eachCell (λ c. c .colspan) t ≡ eachCell (λ c. c .colspan) u
-  pub rowspans : eachCell (λ c. c .rowspan) t ≡ eachCell (λ c. c .rowspan) u
-  pub lines : eachCell (λ c. drawnLines (c .lines)) t ≡ eachCell (λ c. drawnLines (c .lines)) u
-
--- where each cell stands
-pub record SamePlaces (t u : Table) : Type 0 where
-  pub rows : eachCell (λ c. c .row) t ≡ eachCell (λ c. c .row) u
-  pub columns : eachCell (λ c. c .column) t ≡ eachCell (λ c. c .column) u
-
-pub record SameParts (t u : Table) : Type 0 where
-  pub look : SameLook t u
-  pub places : SamePlaces t u
 
 -- ---- from sameness to its parts
 

@@ -1,12 +1,12 @@
 -- Demand 2, apart from any search: what a bordered rectangle, the first one at a corner, and a cover of the grid are.
 use mathlib.Core.Path.{_≡_}
 use mathlib.Core.Bool.{Bool, true, _&&_, _||_}
-use mathlib.Core.List.{List, [], _∷_, List·Memᴰ}
+use mathlib.Core.List.{List, [], _∷_, List·Memᴰ, List·Permᴰ}
 use mathlib.Core.Logic.{_⊎_}
 use Prim.Native.Nat.{ℕ, suc, _-_, _≤_, _<_}
 use lib.Dec.{eqb, leb, ltb}
 use lib.ListN.{length, getD, replicate}
-use Rattle.seq.specs.Lists.{count}
+use Rattle.seq.specs.Lists.{count, neighbours}
 use Rattle.grid.specs.Values.{Rect, Cell}
 use Rattle.grid.specs.Slots.{Grid, Plus, glyphAt, horizontal, vertical}
 use Rattle.grid.specs.Trace.{lowest, leftmost, raise}
@@ -55,6 +55,13 @@ Small g = (g .height ≤ 1) ⊎ (g .width ≤ 1)
 -- in order of top, then left
 abbrev pub precedes : Rect → Rect → Bool
 precedes a b = ltb (a .top) (b .top) || (eqb (a .top) (b .top) && ltb (a .left) (b .left))
+
+-- the rectangles are the cover of the grid: at most 1,024, in order of top, then left, and every other cover is these in another order
+pub record OnlyCover (g : Grid) (rs : List Rect) : Type 0 where
+  pub covers : Cover g rs
+  pub few : length rs ≤ 1024
+  pub ordered : neighbours precedes rs ≡ true
+  pub only : (cs : List Rect) → Cover g cs → List·Permᴰ rs cs
 
 -- cells of a layout in order of row, then column
 abbrev pub cellPrecedes : Cell → Cell → Bool

@@ -2,10 +2,12 @@
 -- trimmed lines without empty last ones agree."
 use mathlib.Core.Path.{_≡_}
 use mathlib.Core.List.{List, map}
+use lib.ListN.{length}
 use Prim.Native.Nat.{ℕ}
 use Rattle.text.specs.Trim.{trimEnd}
 use Rattle.grid.specs.Values.{GridTableColumn, TableCell, Table}
 use Rattle.grid.specs.Cut.{dropEmptyLast}
+use Rattle.grid.specs.declared.TableAlignment.{TableAlignment}
 
 -- a cell's lines as they are drawn
 unfoldable pub drawnLines : List (List ℕ) → List (List ℕ)
@@ -26,3 +28,28 @@ normal t =
 
 abbrev pub Same : Table → Table → Type 0
 Same t u = normal t ≡ normal u
+
+abbrev pub alignmentsOf : Table → List TableAlignment
+alignmentsOf t = map (λ (c : GridTableColumn). c .alignment) (t .columns)
+
+-- a part of each cell, in order
+abbrev pub eachCell : {A : Type 0} → (TableCell → A) → Table → List A
+eachCell part t = map part (t .cells)
+
+-- The same sentence, part by part: `same-parts` of proofs/SameLaws.antt says that sameness is this and the cells' places.
+pub record SameLook (t u : Table) : Type 0 where
+  pub columns : length (t .columns) ≡ length (u .columns)
+  pub alignments : alignmentsOf t ≡ alignmentsOf u
+  pub sections : t .sections ≡ u .sections
+  pub colspans : eachCell (λ c. c .colspan) t ≡ eachCell (λ c. c .colspan) u
+  pub rowspans : eachCell (λ c. c .rowspan) t ≡ eachCell (λ c. c .rowspan) u
+  pub lines : eachCell (λ c. drawnLines (c .lines)) t ≡ eachCell (λ c. drawnLines (c .lines)) u
+
+-- where each cell stands
+pub record SamePlaces (t u : Table) : Type 0 where
+  pub rows : eachCell (λ c. c .row) t ≡ eachCell (λ c. c .row) u
+  pub columns : eachCell (λ c. c .column) t ≡ eachCell (λ c. c .column) u
+
+pub record SameParts (t u : Table) : Type 0 where
+  pub look : SameLook t u
+  pub places : SamePlaces t u

@@ -23,7 +23,7 @@ pub enum CellAnswer {
 }
 
 // From n traced rectangles to the cut lines of cell k. `starts` is working space.
-pub fn finish_cell(
+fn finish_cell(
     lengths: &[u16],
     columns: &[u16],
     text: &[u8],

@@ -18,7 +18,7 @@ use Rattle.grid.specs.CutCall.{CutNumbers, cutNumbers}
 use Rattle.grid.specs.Flat.{FlatDrawing, linesFrom, linesOf}
 use Rattle.grid.specs.LayoutCall.{LayoutSpace, drawing}
 use Rattle.representation.specs.LayoutParts.{rectsAnswer}
-use Rattle.representation.specs.Arrays.{rectsOf}
+use Rattle.representation.specs.Arrays.{rectsOf, rectIn}
 use Rattle.grid.specs.TableCall.{startsShort, noCell, cellCuts, cellAnswer, cellAfterwards}
 use Rattle.representation.specs.TableParts.{cutsCountOf, cutsArrayOf}
 use Rattle.grid.proofs.CellLaws.{cell-cuts}
@@ -26,7 +26,7 @@ use Rattle.representation.proofs.RectsLaws.{length-rects, getD-rects}
 use Rattle.representation.proofs.TablePartsLaws.{short-cell, refused-cell, past-the-end, finished-cell}
 use Rattle.cell.specs.Text.{source, fragmentBetween, noRect}
 use Rattle.cell.specs.Cuts.{cutsOf}
-use Rattle.cell.specs.Answer.{cellCountOf, cellArrayOf, rectIn, Cutting}
+use Rattle.cell.specs.Answer.{cellCountOf, cellArrayOf, Cutting}
 use Rattle.cell.proofs.CellLaws.{rect-held}
 use Rattle.reading.specs.Call.{TracedSheet, Reading}
 use Rattle.reading.specs.declared.Outcome.{Outcome}

@@ -14,14 +14,14 @@ use Rattle.seq.specs.Lists.{sum}
 use Rattle.seq.proofs.Positions.{getD-mem}
 use Rattle.grid.specs.Answer.{accept, refuse, over}
 use Rattle.grid.specs.CutCall.{CutNumbers}
-use Rattle.representation.specs.Arrays.{rectsOf}
+use Rattle.representation.specs.Arrays.{rectsOf, rectIn}
 use Rattle.grid.specs.TableCall.{cutArray}
 use Rattle.representation.specs.TableParts.{cutsAnswerOf, cutsCountOf, cutsArrayOf}
 use Rattle.representation.proofs.RectsLaws.{length-rects, getD-rects}
 use Rattle.cell.specs.Text.{source, noRect, Ready, Framed}
 use Rattle.cell.specs.Cuts.{cutsOf}
 use Rattle.cell.proofs.cuts.WriteLaws.{length-cuts, length-entries}
-use Rattle.cell.specs.Answer.{cellCountOf, cellArrayOf, rectIn, Cutting}
+use Rattle.cell.specs.Answer.{cellCountOf, cellArrayOf, Cutting}
 
 pub rect-held : (rects : List ℕ) (n k : ℕ) → k < n → List·Memᴰ (rectIn rects k) (rectsOf n rects)
 rect-held rects n k h = rw (getD-rects n k rects noRect h) at (getD-mem (rectsOf n rects) k noRect (rw length-rects h))

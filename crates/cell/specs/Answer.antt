@@ -1,9 +1,9 @@
 -- The cell call from the traced rectangles on: 13, 12 or the cut lines.
-use Prim.Native.Nat.{ℕ, _+_, _*_, _≤_}
+use Prim.Native.Nat.{ℕ, _*_, _≤_}
 use mathlib.Core.Bool.{cond}
 use mathlib.Core.List.{List, List·Memᴰ}
 use lib.Dec.{leb}
-use lib.ListN.{length, getD}
+use lib.ListN.{length}
 use Rattle.grid.specs.Answer.{Answer, accept, refuse, refuseIf}
 use Rattle.grid.specs.Limits.{maxBytes}
 use Rattle.grid.specs.Values.{Rect}
@@ -27,11 +27,6 @@ cellCountOf n k cuts out = refuseIf (leb n k) 13 (cutsCountOf cuts out)
 
 abbrev pub cellArrayOf : ℕ → ℕ → List CutNumbers → List ℕ → List ℕ
 cellArrayOf n k cuts out = cond (leb n k) out (cutsArrayOf cuts out)
-
--- rectangle k of an array
-abbrev pub rectIn : List ℕ → ℕ → Rect
-rectIn rects k =
-    record { top = getD rects (4 * k) 0; left = getD rects (4 * k + 1) 0; bottom = getD rects (4 * k + 2) 0; right = getD rects (4 * k + 3) 0 }
 
 -- a drawing whose n rectangles can be cut, wherever its lines start
 pub record Cutting (lengths columns text offsets rects starts : List ℕ) (n : ℕ) : Type 0 where

@@ -10,9 +10,10 @@ ghost use mathlib.Core.Path.{_≡_};
 ghost use lib.ListN.{length};
 ghost use Rattle.grid.specs.LayoutCall.{spaces, drawing};
 ghost use Rattle.grid.specs.TableCall.{cellAnswer, cellAfterwards};
+ghost use Rattle.representation.specs.Arrays.{rectIn};
 ghost use Rattle.cell.specs.Text.{source};
 ghost use Rattle.cell.specs.Cuts.{cutsOf};
-ghost use Rattle.cell.specs.Answer.{cellAnswerOf, cellCountOf, cellArrayOf, rectIn, Cutting};
+ghost use Rattle.cell.specs.Answer.{cellAnswerOf, cellCountOf, cellArrayOf, Cutting};
 
 const MAX_LINES: usize = 128;
 

@@ -60,11 +60,11 @@ border v y x = cornerAt v y x || horizontalAt v y x || verticalAt v y x
 abbrev pub End : ℕ → ℕ → ℕ → Type 0
 End a b n = (n ≡ a) ⊎ (n ≡ b)
 
-end-isEdge : (a b n : ℕ) → End a b n → isEdge a b n ≡ true
+pub end-isEdge : (a b n : ℕ) → End a b n → isEdge a b n ≡ true
 end-isEdge a b n (inl e) = or-left (eqb n b) (eq-eqb n a e)
 end-isEdge a b n (inr e) = or-right (eqb n a) (eq-eqb n b e)
 
-isEdge-end : (a b n : ℕ) → isEdge a b n ≡ true → End a b n
+pub isEdge-end : (a b n : ℕ) → isEdge a b n ≡ true → End a b n
 isEdge-end a b n h = ⊎-elim (λ e. inl (eqb-true n a e)) (λ e. inr (eqb-true n b e)) (or-cases (eqb n a) (eqb n b) h)
 
 pub isInside-between : (a b n : ℕ) → isInside a b n ≡ true → (a < n) × (n < b)

@@ -99,7 +99,7 @@ module _ {v : Canvas} (L : Lined v) (o : ℕ) {b : Box} (m : List·Memᴰ b (v .
   abbrev end : ℕ
   end = b .frame .left + 1 + (1 + n)
 
-  to-text : Spans o (Before ++ space ∷ text) end
+  pub to-text : Spans o (Before ++ space ∷ text) end
   to-text =
       spans-append {a = Before} {b = space ∷ text} (flat-left (L .written) o y low m u w)
       (spans-append {a = space ∷ []} {b = text} (spans-single (o + (b .frame .left + 1)) single-space) (text-spans o b y (L .written .texts b m (y - b .frame .top - 1))))
@@ -108,7 +108,7 @@ module _ {v : Canvas} (L : Lined v) (o : ℕ) {b : Box} (m : List·Memᴰ b (v .
   unfolding innerLine
   inner-is = refl
 
-  row-text : flat o v y 0 (canvasWidth v) ≡ (Before ++ space ∷ text) ++ (replicate (b .frame .right - b .frame .left - 2 - n) space ++ rest)
+  pub row-text : flat o v y 0 (canvasWidth v) ≡ (Before ++ space ∷ text) ++ (replicate (b .frame .right - b .frame .left - 2 - n) space ++ rest)
   row-text = flat-around (L .written) o y low m u w ∙ ap (λ (r : List ℕ). Before ++ (r ++ rest)) inner-is ∙ simp append-assoc
 
   -- a slot behind the text is a space's
@@ -125,7 +125,7 @@ module _ {v : Canvas} (L : Lined v) (o : ℕ) {b : Box} (m : List·Memᴰ b (v .
         spans-cast {a = (Before ++ space ∷ text) ++ replicate (c - end) space} (omega arith)
         (spans-append {a = Before ++ space ∷ text} {b = replicate (c - end) space} to-text (spans-spaces (o + end) (c - end)))
 
-    past-text : vertical (glyphAt g y c) ≡ false
+    pub past-text : vertical (glyphAt g y c) ≡ false
     unfolding slotAt glyphOf
     past-text =
         ap (λ (l : List Slot). vertical (getD l c (record { glyph = Other; byte = 0 }) .glyph)) (rows-flat L o y low ∙ ap (λ (r : List ℕ). slotsFrom (ruleAt o v y) o (charIndices r)) row-pad)

@@ -170,7 +170,8 @@ module _ {v : Canvas} (L : Lined v) (o : ℕ) where
         same-box P m n {y = y - 1} {x = x - 1} (record { below = omega arith; above = omega arith; after = omega (arith, s .broad); before = omega (arith, s .broad) })
         (record { below = omega (arith, z .tall); above = omega (arith, z .tall); after = omega arith; before = omega arith })
 
-    no-across : (y x : ℕ) → b .frame .top < y → y < b .frame .bottom → Side b x → horizontalAt v y x ≡ false
+    -- on a side of the box no border runs across
+    pub no-across : (y x : ℕ) → b .frame .top < y → y < b .frame .bottom → Side b x → horizontalAt v y x ≡ false
     no-across y x u w d = refused (horizontalAt v y x) (λ h. let t = horizontalAt-box v y x h in clash (t .0) (t .1) (t .2) (t .3) (t .4)) where
       clash : (c : Box) → List·Memᴰ c (v .boxes) → End (c .frame .top) (c .frame .bottom) y → c .frame .left < x → x < c .frame .right → ⊥
       clash c n e l r =

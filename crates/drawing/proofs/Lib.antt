@@ -1,7 +1,8 @@
--- Computed examples: sizes and drawing, refusals, with the tables that they share.
+-- Computed examples: refusals, the calls' arrays, sizes and drawing, with the tables that they share.
+pub mod AnswerExamples
+pub mod ArrayExamples
 pub mod ExamplesTables
 pub mod Examples
-pub mod ExamplesRefusals
 -- Sizes: columns and their measure, widths and heights, where borders stand.
 pub mod MeasureLaws
 pub mod FitLaws
@@ -28,6 +29,7 @@ pub mod CheckLaws
 pub mod GlyphRows
 pub mod FirstBoxes
 pub mod CutBoxes
+pub mod TextSlots
 -- The table that is read back from a drawing.
 pub mod CellsBack
 pub mod SectionsBack
@@ -36,3 +38,15 @@ pub mod SameDrawn
 pub mod ReadsBack
 pub mod WidthsBack
 pub mod SameBack
+-- Demand 3, over the definitions and over the calls, and four statements beyond it.
+pub mod PlaceLaws
+pub mod RoundTrip
+pub mod Exact
+pub mod CallLaws
+pub mod CallRoundTrip
+pub mod RedrawAgain
+pub mod CallAgain
+pub mod RedrawRead
+pub mod RedrawPlace
+-- The call from a sheet to its redrawing: the two calls one after the other.
+pub mod SheetCallLaws

@@ -19,13 +19,13 @@ use Rattle.seq.proofs.Positions.{getD-mem}
 use Rattle.seq.proofs.Sums.{sum-le, sum-flatMap}
 use Rattle.text.specs.Utf8.{wellFormed}
 use Rattle.grid.specs.Values.{Line, Rect, GridTableColumn, TableCell, Table}
-use Rattle.grid.specs.Answer.{Answer, accept, refuseIf, refuseAt, andThen}
+use Rattle.grid.specs.Answer.{Answer, accept, refuseIf, refuseAt}
 use Rattle.grid.specs.Slots.{Grid, gridOf}
 use Rattle.grid.specs.Layout.{indexOf, columnLines, rowLines, Between, between, alignmentAt, sectionAt, columnsRead, layoutOf, innerLines}
 use Rattle.grid.specs.Cut.{tableOf}
 use Rattle.grid.specs.Cover.{holds, Cover}
 use Rattle.grid.specs.Read.{readTable}
-use Rattle.grid.specs.Flat.{flatDrawing, tableLines, tableSizes, tableArrays}
+use Rattle.grid.specs.Flat.{tableLines, tableSizes, tableArrays}
 use Rattle.grid.specs.declared.GridTableSection.{GridTableSection}
 use Rattle.grid.specs.declared.GridTableSection.the-variants.{Head, Body, Foot}
 use Rattle.grid.proofs.LayoutLaws.{between-mem, columnLine-inside, columnLines-few, rowLines-few, rowLines-rise, top-line, holder}
@@ -37,7 +37,7 @@ use Rattle.grid.proofs.CellLaws.{cutAt, cell-fewer, cell-bytes, cell-line}
 use Rattle.grid.proofs.CellTexts.{all-lines, all-bytes, cut-short, cut-well}
 use Rattle.drawing.specs.GridRules.{isHead, isFoot}
 use Rattle.drawing.specs.Redraw.{tableEmpty, shapeTooLarge, linesTooLarge, tableTooLarge, tableOutsideSet, footWithoutHead, checkTable, misaligned, drawnTooLarge, splitCell, redrawCanvas, redraw}
-use Rattle.drawing.specs.RedrawCall.{DrawingArrays, redrawSpace, drawingShort, redrawAccepts}
+use Rattle.drawing.specs.RedrawCall.{RedrawSpace, DrawingArrays, redrawSpaceShort, redrawInto, redrawAccepts}
 use Rattle.drawing.specs.Plain.{canvasOf, canvasLines}
 use Rattle.drawing.proofs.LimitLaws.{limits-shape, limits-lines}
 use Rattle.drawing.proofs.ReadRules.{table, cell, table-cells, table-columns, table-rows, table-sections, section-of, stands, read-keeps}
@@ -220,8 +220,7 @@ module _ (lines : List Line) (t : Table) (e : readTable lines ≡ accept t) wher
     read-redraws = read-passes origin h (redrawCanvas t (canvasOf t) drawing) ∙ rw read-headed
 
 -- From a table's own arrays the redraw call gives 13 for short working space alone.
-pub arrays-redraw : (space origin : ℕ) (t : Table) (out : DrawingArrays) → redrawAccepts space origin (tableSizes t) (tableArrays t) out
-    ≡ refuseIf (ltb space redrawSpace) 13
-    (andThen (redraw origin t) (λ drawn. refuseIf (drawingShort out (flatDrawing drawn)) 12 (accept (flatDrawing drawn))))
+pub arrays-redraw : (w : RedrawSpace) (origin : ℕ) (t : Table) (out : DrawingArrays)
+    → redrawAccepts w origin (tableSizes t) (tableArrays t) out ≡ refuseIf (redrawSpaceShort w) 13 (redrawInto out origin t)
 unfolding redrawAccepts
-arrays-redraw space origin t out = rw (table-fits t, table-again t)
+arrays-redraw w origin t out = rw (table-fits t, table-again t)

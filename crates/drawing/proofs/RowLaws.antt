@@ -44,7 +44,7 @@ pub record Written (v : Canvas) : Type 0 where
 abbrev pub textColumns : ℕ → Box → ℕ → ℕ
 textColumns o b y = columnsFrom (o + b .frame .left + 2) (charIndices (getD (b .lines) (y - b .frame .top - 1) []))
 
-text-fits : (o : ℕ) (b : Box) (y : ℕ) → Fits b (y - b .frame .top - 1) → textColumns o b y + b .frame .left + 2 ≤ b .frame .right
+pub text-fits : (o : ℕ) (b : Box) (y : ℕ) → Fits b (y - b .frame .top - 1) → textColumns o b y + b .frame .left + 2 ≤ b .frame .right
 text-fits o b y t = omega (arith, t .fits, columns-measure (o + b .frame .left + 2) (charIndices (getD (b .lines) (y - b .frame .top - 1) [])))
 
 pub text-spans : (o : ℕ) (b : Box) (y : ℕ) → Fits b (y - b .frame .top - 1) → Spans (o + (b .frame .left + 1) + 1) (getD (b .lines) (y - b .frame .top - 1) []) (textColumns o b y)
@@ -65,7 +65,7 @@ innerLine-spans o b y t =
 unfoldable pub edgeByte : Canvas → ℕ → ℕ → ℕ
 edgeByte v y x = cond (cornerAt v y x) plus (cond (horizontalAt v y x) (borderByte v y x) pipe)
 
-edgeByte-single : (v : Canvas) (y x : ℕ) → Single (edgeByte v y x)
+pub edgeByte-single : (v : Canvas) (y x : ℕ) → Single (edgeByte v y x)
 unfolding edgeByte borderByte
 edgeByte-single v y x =
     cond-either Single (cornerAt v y x) (record { low = omega arith; high = omega arith })
@@ -102,7 +102,7 @@ module _ (o : ℕ) (v : Canvas) (y : ℕ) where
   unfolding flat flatMap range
   flat-next a n = refl
 
-  flat-zero : (a : ℕ) → flat o v y a 0 ≡ []
+  pub flat-zero : (a : ℕ) → flat o v y a 0 ≡ []
   unfolding flat flatMap range
   flat-zero a = refl
 

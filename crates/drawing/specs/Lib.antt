@@ -2,5 +2,9 @@ pub mod GridRules
 pub mod Sizes
 pub mod Plain
 pub mod Redraw
+pub mod RoundTrip
+pub mod Places
 pub mod RedrawCall
+pub mod SheetCall
+pub mod RoundTripCall
 pub mod Computing

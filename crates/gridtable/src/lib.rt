@@ -5,7 +5,11 @@ pub mod cells;
 pub mod cut_reply;
 pub mod fragment;
 pub mod layout_reply;
+pub mod redraw_reply;
+pub mod redraws;
 pub mod reply;
+pub mod sheet_reply;
+pub mod sheets;
 pub mod table_reply;
 pub mod tables;
 

@@ -47,3 +47,24 @@ pub struct CellReply {
     pub place: usize,
     pub lines: usize,
 }
+
+// Number 0 is acceptance; then how many lines and bytes were written. A refusal has its number and
+// place, and 0 for the rest.
+#[repr(C)]
+pub struct RedrawReply {
+    pub number: usize,
+    pub place: usize,
+    pub lines: usize,
+    pub bytes: usize,
+}
+
+// Step 0 is acceptance; then how many lines and bytes were written. A refusal has its step, 1 for
+// reading and 2 for redrawing, its number and place, and 0 for the rest.
+#[repr(C)]
+pub struct SheetReply {
+    pub step: usize,
+    pub number: usize,
+    pub place: usize,
+    pub lines: usize,
+    pub bytes: usize,
+}

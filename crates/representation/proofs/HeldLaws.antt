@@ -17,10 +17,10 @@ use Rattle.seq.proofs.FlatMaps.{length-flatMap}
 use Rattle.seq.proofs.Entries.{Written, write-more}
 use Rattle.seq.specs.Lists.{consIf, select}
 use Rattle.grid.specs.Values.{Rect}
-use Rattle.representation.specs.Arrays.{rectsOf}
+use Rattle.representation.specs.Arrays.{rectsOf, rectIn}
 use Rattle.grid.specs.Layout.{Between, between, indexOf}
 use Rattle.grid.proofs.LayoutLaws.{length-between, between-at}
-use Rattle.representation.proofs.RectsLaws.{rectAt, length-rects, getD-rects}
+use Rattle.representation.proofs.RectsLaws.{length-rects, getD-rects}
 use Rattle.representation.specs.declared.Bounds.{Bounds}
 use Rattle.representation.specs.LayoutEntries.{linesHeld, Rising, Inside, Numbered}
 
@@ -67,7 +67,7 @@ pub noRect : Rect
 noRect = record { top = 0; left = 0; bottom = 0; right = 0 }
 
 -- what holds of each rectangle holds of number k
-pub rect-holds : (P : Rect → Type 0) (rects : List ℕ) (n k : ℕ) → k < n → ((r : Rect) → List·Memᴰ r (rectsOf n rects) → P r) → P (rectAt rects k)
+pub rect-holds : (P : Rect → Type 0) (rects : List ℕ) (n k : ℕ) → k < n → ((r : Rect) → List·Memᴰ r (rectsOf n rects) → P r) → P (rectIn rects k)
 rect-holds P rects n k h all =
     rw (getD-rects n k rects noRect h) at (all (getD (rectsOf n rects) k noRect) (getD-mem (rectsOf n rects) k noRect (rw length-rects h)))
 
@@ -76,7 +76,7 @@ pub record AllInside (rects : List ℕ) (n : ℕ) : Type 0 where
   pub each : (r : Rect) → List·Memᴰ r (rectsOf n rects) → Inside 128 128 r
 
 module _ (rects : List ℕ) (n k : ℕ) (all : AllInside rects n) (h : k < n) where
-  within : Inside 128 128 (rectAt rects k)
+  within : Inside 128 128 (rectIn rects k)
   within = rect-holds (Inside 128 128) rects n k h (all .each)
 
   pub top-above : getD rects (4 * k) 0 < getD rects (4 * k + 2) 0
@@ -130,7 +130,7 @@ spanEntry more rows columns r =
     ∷ (indexOf rows (r .bottom) - indexOf rows (r .top)) ∷ more r ∷ []
 
 module _ (rects : List ℕ) (n : ℕ) (rows columns : Bounds) (k : ℕ) (numbered : AllNumbered rects n rows columns) (h : k < n) where
-  here : Numbered rows columns (rectAt rects k)
+  here : Numbered rows columns (rectIn rects k)
   here = rect-holds (Numbered rows columns) rects n k h (numbered .each)
 
   pub rows-ordered : getD (rows .index) (getD rects (4 * k) 0) 0 ≤ getD (rows .index) (getD rects (4 * k + 2) 0) 0
@@ -140,7 +140,7 @@ module _ (rects : List ℕ) (n : ℕ) (rows columns : Bounds) (k : ℕ) (numbere
   columns-ordered = rw (here .leftNumber, here .rightNumber) (index-grows (linesHeld columns) (getD rects (4 * k + 1) 0) (getD rects (4 * k + 3) 0) (omega (arith, here .inside .across)))
 
   -- one turn, whatever the number more
-  pub span-next : (more : Rect → ℕ) (v : ℕ) (buffer out out′ : List ℕ) → 5 * n ≤ length buffer → v ≡ more (rectAt rects k)
+  pub span-next : (more : Rect → ℕ) (v : ℕ) (buffer out out′ : List ℕ) → 5 * n ≤ length buffer → v ≡ more (rectIn rects k)
       → Written (spanEntry more (linesHeld rows) (linesHeld columns)) (rectsOf n rects) 0 buffer k out
       → out′ ≡ take (5 * k) out
       ++ (getD (rows .index) (getD rects (4 * k) 0) 0

@@ -10,3 +10,5 @@ pub mod HeldLaws
 pub mod AgreeLaws
 pub mod TracedLaws
 pub mod TableEntryLaws
+-- A table in the arrays that redraw is lent.
+pub mod TableInLaws

@@ -12,7 +12,7 @@ use lib.Seq.{getD-drop, drop-drop}
 use Rattle.seq.specs.Lists.{any}
 use Rattle.grid.specs.Values.{Rect}
 use Rattle.grid.specs.Flat.{everyNth}
-use Rattle.representation.specs.Arrays.{rectsOf}
+use Rattle.representation.specs.Arrays.{rectsOf, rectIn}
 use Rattle.seq.proofs.Walks.{or-false, or-middle, any-append}
 
 -- one entry more
@@ -53,11 +53,7 @@ unfolding rectsOf
 length-rects zero rects = refl
 length-rects (suc n) rects = ap suc (length-rects n (drop 4 rects))
 
-abbrev pub rectAt : List ℕ → ℕ → Rect
-rectAt rects k =
-    record { top = getD rects (4 * k) 0; left = getD rects (4 * k + 1) 0; bottom = getD rects (4 * k + 2) 0; right = getD rects (4 * k + 3) 0 }
-
-pub getD-rects : (n k : ℕ) (rects : List ℕ) (d : Rect) → k < n → getD (rectsOf n rects) k d ≡ rectAt rects k
+pub getD-rects : (n k : ℕ) (rects : List ℕ) (d : Rect) → k < n → getD (rectsOf n rects) k d ≡ rectIn rects k
 unfolding rectsOf
 getD-rects zero k rects d h = absurd (omega arith)
 getD-rects (suc n) zero rects d h = refl

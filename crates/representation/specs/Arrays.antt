@@ -57,3 +57,8 @@ unfoldable pub rectsOf : ℕ → List ℕ → List Rect
 rectsOf zero array = []
 rectsOf (suc n) array =
     record { top = getD array 0 0; left = getD array 1 0; bottom = getD array 2 0; right = getD array 3 0 } ∷ rectsOf n (drop 4 array)
+
+-- rectangle k of an array
+abbrev pub rectIn : List ℕ → ℕ → Rect
+rectIn rects k =
+    record { top = getD rects (4 * k) 0; left = getD rects (4 * k + 1) 0; bottom = getD rects (4 * k + 2) 0; right = getD rects (4 * k + 3) 0 }

@@ -6,3 +6,4 @@ pub mod TableParts
 pub mod Edges
 pub mod LayoutEntries
 pub mod TableEntries
+pub mod TableIn

@@ -1,6 +1,6 @@
 -- Laws of the element at a position.
 use Prim.Native.Nat.{ℕ, zero, suc, _+_, _-_, _≤_, _<_}
-use mathlib.Core.Path.{_≡_, refl, ap, _∙_}
+use mathlib.Core.Path.{_≡_, refl, sym, ap, _∙_}
 use mathlib.Core.List.{List, [], _∷_, _++_, map, map-append, List·Memᴰ, List·Memᴰ·head, List·Memᴰ·tail}
 use native.Mathlib.Omega.{arith}
 use lib.ListN.{length, getD, replicate, length-map}
@@ -12,6 +12,11 @@ pub getD-mem : {A : Type 0} (l : List A) (i : ℕ) (d : A) → i < length l → 
 getD-mem [] i d h = absurd (omega arith)
 getD-mem (a ∷ l) zero d h = List·Memᴰ·head refl
 getD-mem (a ∷ l) (suc i) d h = List·Memᴰ·tail (getD-mem l i d (omega arith))
+
+-- the position of an element
+pub mem-getD : {A : Type 0} {l : List A} {a : A} (d : A) → List·Memᴰ a l → (i : ℕ) × (i < length l) × (getD l i d ≡ a)
+mem-getD d (List·Memᴰ·head {x} {xs} q) = (0, omega arith, sym q)
+mem-getD d (List·Memᴰ·tail {x} {xs} m) = let (i, u, e) = mem-getD d m in (suc i, omega arith, e)
 
 pub getD-past : {A : Type 0} (xs ys : List A) (i : ℕ) (d : A) → length xs ≤ i → getD (xs ++ ys) i d ≡ getD ys (i - length xs) d
 getD-past xs ys i d h =

@@ -15,8 +15,8 @@ use Rattle.seq.proofs.FlatMaps.{length-flatMap-sum, flatMap-flatMap}
 use Rattle.seq.proofs.Walks.{sum-more}
 use Rattle.grid.specs.Values.{Rect}
 use Rattle.grid.specs.Flat.{joinText}
-use Rattle.representation.specs.Arrays.{rectsOf}
-use Rattle.representation.proofs.RectsLaws.{length-rects, rectAt, getD-rects}
+use Rattle.representation.specs.Arrays.{rectsOf, rectIn}
+use Rattle.representation.proofs.RectsLaws.{length-rects, getD-rects}
 use Rattle.seq.proofs.Positions.{getD-mem}
 use Rattle.cell.specs.Text.{source, keptLines, allLines, noRect, Ready, Framed, CountedBy, Preparable, Prepared}
 use Rattle.cell.specs.declared.pieces.TextSize.{TextSize}
@@ -46,16 +46,16 @@ module _ (lengths columns text starts offsets rects : List ℕ) (n : ℕ) (count
 
   module _ {counts : List ℕ} {lines bytes k : ℕ} (t : Totalling counts lines bytes k) where
     module _ (h : k < n) where
-      here : getD (rectsOf n rects) k noRect ≡ rectAt rects k
+      here : getD (rectsOf n rects) k noRect ≡ rectIn rects k
       here = getD-rects n k rects noRect h
 
-      pub cell-framed : Framed (source lengths columns text starts offsets) (rectAt rects k)
+      pub cell-framed : Framed (source lengths columns text starts offsets) (rectIn rects k)
       cell-framed = rw here at (t .framed (getD (rectsOf n rects) k noRect) (getD-mem (rectsOf n rects) k noRect (rw length-rects h)))
 
       pub count-room : k < length counts
       count-room = omega (arith, t .same, t .room)
 
-      module _ {more extra : ℕ} (size : (more ≡ length (kept (rectAt rects k))) × (more < 128)) (weight : (extra ≡ sum (map length (kept (rectAt rects k)))) × (extra ≤ 65536)) where
+      module _ {more extra : ℕ} (size : (more ≡ length (kept (rectIn rects k))) × (more < 128)) (weight : (extra ≡ sum (map length (kept (rectIn rects k)))) × (extra ≤ 65536)) where
         pub lines-fit : n ≤ 1024 → Fits w64 (lines + more)
         lines-fit few = fits-under w64 (lines + more) 1000000 (omega (arith, t .fewLines, size .1)) tt
 
@@ -93,7 +93,7 @@ module _ (lengths columns text starts offsets rects : List ℕ) (n : ℕ) (count
 
 -- the number that an array has for rectangle k
 pub counted-here : (f : Rect → ℕ) (rects : List ℕ) (n : ℕ) (counts : List ℕ) (k : ℕ) → CountedBy f (rectsOf n rects) counts → k < n
-    → getD counts k 0 ≡ f (rectAt rects k)
+    → getD counts k 0 ≡ f (rectIn rects k)
 counted-here f rects n counts k counted h =
     counted .1 k (rw length-rects h) ∙ ap f (getD-rects n k rects noRect h)
 

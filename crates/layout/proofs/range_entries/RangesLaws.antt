@@ -12,9 +12,9 @@ use Rattle.seq.proofs.Entries.{Written, length-more, first-shorter, none-writte
 use Rattle.grid.specs.Answer.{over}
 use Rattle.seq.specs.Lists.{sum}
 use Rattle.grid.specs.Values.{Rect}
-use Rattle.representation.specs.Arrays.{codeAt, rectsOf}
+use Rattle.representation.specs.Arrays.{codeAt, rectsOf, rectIn}
 use Rattle.seq.proofs.Walks.{sum-more}
-use Rattle.representation.proofs.RectsLaws.{rectAt, length-rects, getD-rects}
+use Rattle.representation.proofs.RectsLaws.{length-rects, getD-rects}
 use Rattle.representation.specs.LayoutEntries.{rangeEntries, allRanges, Inside}
 use Rattle.representation.proofs.HeldLaws.{noRect, rect-holds, AllInside, bottom-small}
 use Rattle.layout.proofs.range_entries.RangeLaws.{length-ranges}
@@ -40,12 +40,12 @@ module _ (rects : List ℕ) (n : ℕ) (offsets buffer : List ℕ) (k at : ℕ) (
     pub rect-small : (y : ℕ) → getD rects (4 * k) 0 < y → y < getD rects (4 * k + 2) 0 → codeAt offsets y (getD rects (4 * k + 1) 0) < 512
     rect-small = rect-holds (λ r. (y : ℕ) → r .top < y → y < r .bottom → codeAt offsets y (r .left) < 512) rects n k h (w .small)
 
-    entries-here : rangeEntries offsets (getD (rectsOf n rects) k noRect) ≡ rangeEntries offsets (rectAt rects k)
+    entries-here : rangeEntries offsets (getD (rectsOf n rects) k noRect) ≡ rangeEntries offsets (rectIn rects k)
     entries-here = rw (getD-rects n k rects noRect h)
 
     place-next : at + 2 * (getD rects (4 * k + 2) 0 - getD rects (4 * k) 0 - 1) ≡ length (flatMap (rangeEntries offsets) (take (k + 1) (rectsOf n rects)))
     place-next =
-        omega (arith, w .place, length-more (rangeEntries offsets) (rectsOf n rects) k noRect (rw length-rects h), ap length entries-here, length-ranges offsets (rectAt rects k))
+        omega (arith, w .place, length-more (rangeEntries offsets) (rectsOf n rects) k noRect (rw length-rects h), ap length entries-here, length-ranges offsets (rectIn rects k))
 
     pub ranges-fit : at + 2 * (getD rects (4 * k + 2) 0 - getD rects (4 * k) 0 - 1) ≤ length out
     ranges-fit = omega (arith, place-next, first-shorter (rangeEntries offsets) (rectsOf n rects) (k + 1), w .room, w .entries .kept)
@@ -57,7 +57,7 @@ module _ (rects : List ℕ) (n : ℕ) (offsets buffer : List ℕ) (k at : ℕ) (
     place-fits few = record { fits = omega (arith, w .few, bottom-small rects n k (w .inside) h) }
 
     pub cell-ranges : (out′ : List ℕ)
-        → out′ ≡ take at out ++ rangeEntries offsets (rectAt rects k) ++ drop (at + 2 * (getD rects (4 * k + 2) 0 - getD rects (4 * k) 0 - 1)) out
+        → out′ ≡ take at out ++ rangeEntries offsets (rectIn rects k) ++ drop (at + 2 * (getD rects (4 * k + 2) 0 - getD rects (4 * k) 0 - 1)) out
         → AllWritten rects n offsets buffer (k + 1) (at + 2 * (getD rects (4 * k + 2) 0 - getD rects (4 * k) 0 - 1)) out′
     cell-ranges out′ e =
         record {
@@ -68,8 +68,8 @@ module _ (rects : List ℕ) (n : ℕ) (offsets buffer : List ℕ) (k at : ℕ) (
           place = place-next;
           entries =
               write-more (rangeEntries offsets) (rectsOf n rects) 0 buffer out k noRect (rw length-rects h) (w .entries) at out′ (rw zero-add (w .place))
-              (rw (entries-here, length-ranges offsets (rectAt rects k)) (omega (arith, ranges-fit, w .entries .kept)))
-              (rw (entries-here, length-ranges offsets (rectAt rects k)) e);
+              (rw (entries-here, length-ranges offsets (rectIn rects k)) (omega (arith, ranges-fit, w .entries .kept)))
+              (rw (entries-here, length-ranges offsets (rectIn rects k)) e);
         }
 
   pub all-ranges : n ≤ k → out ≡ over (allRanges offsets (rectsOf n rects)) buffer

@@ -12,8 +12,8 @@ use Rattle.seq.proofs.Entries.{Written, length-more, first-shorter, none-writte
 use Rattle.grid.specs.Answer.{over}
 use Rattle.grid.specs.Values.{Rect}
 use Rattle.grid.specs.Flat.{joinText}
-use Rattle.representation.specs.Arrays.{rectsOf}
-use Rattle.representation.proofs.RectsLaws.{rectAt, length-rects, getD-rects}
+use Rattle.representation.specs.Arrays.{rectsOf, rectIn}
+use Rattle.representation.proofs.RectsLaws.{length-rects, getD-rects}
 use Rattle.representation.proofs.HeldLaws.{noRect, rect-holds}
 use Rattle.cell.specs.Text.{Source, keptLines, allLines, Cuttable, Framed, CountedBy}
 use Rattle.cell.proofs.pieces.LineLaws.{kept-inner, kept-cuts}
@@ -70,7 +70,7 @@ module _ (s : Source) (rects : List ℕ) (n : ℕ) (counts lengths text : List �
   module _ (k line byte : ℕ) (lengths′ text′ : List ℕ) (w : TextWritten s rects n counts lengths text k line byte lengths′ text′) where
     module _ (h : k < n) where
       abbrev cell : Rect
-      cell = rectAt rects k
+      cell = rectIn rects k
 
       abbrev cellPieces : List (List ℕ)
       cellPieces = pieces s (getD rects (4 * k) 0) (getD rects (4 * k + 1) 0) (getD rects (4 * k + 3) 0) (getD counts k 0)

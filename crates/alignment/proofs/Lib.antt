@@ -1,0 +1,4 @@
+pub mod SectionLaws
+pub mod CornerLaws
+pub mod LackLaws
+pub mod AlignmentLaws

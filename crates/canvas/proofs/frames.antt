@@ -1,0 +1,2 @@
+-- Laws of the borders of cells in their array.
+pub mod FrameLaws

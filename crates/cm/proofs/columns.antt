@@ -1,0 +1,2 @@
+-- The columns of a text.
+pub mod WalkLaws

@@ -1,0 +1,67 @@
+-- Laws of the columns of a text, character by character, and of a plain one.
+use Prim.Native.Nat.{ℕ, _+_, _*_, _-_, _^_, _≤_, _<_}
+use mathlib.Core.Path.{_≡_, refl, sym, ap, _∙_}
+use mathlib.Core.Bool.{Bool, true}
+use mathlib.Core.List.{List, [], _∷_}
+use native.Mathlib.Omega.{arith}
+use native.Mathlib.Nat.{add-zero, add-assoc}
+use lib.ListN.{length, drop, drop-of-length-le}
+use Rattle.text.specs.declared.Decoded.the-variants.{Character}
+use Rattle.text.specs.Characters.{span}
+use Rattle.text.specs.Columns.{columnsFrom}
+use Rattle.text.specs.Utf8.{character, charsFrom, charIndices, wellFormed, plain}
+use Rattle.text.proofs.Utf8Laws.{chars-next, well-next, size-fits}
+use Rattle.text.proofs.CharactersLaws.{span-four-columns-at-most}
+use Rattle.text.proofs.PlainLaws.{plain-first, plain-rest, plain-span}
+
+-- the characters before `byte` take n columns
+pub record Walked (line : List ℕ) (first byte n : ℕ) : Type 0 where
+  pub inLine : byte ≤ length line
+  pub well : wellFormed (drop byte line) ≡ true
+  pub few : n ≤ 4 * byte
+  pub left : n + columnsFrom (first + n) (charsFrom byte 0 (drop byte line)) ≡ columnsFrom first (charIndices line)
+
+pub walked-none : (line : List ℕ) (first : ℕ) → wellFormed line ≡ true → Walked line first 0 0
+walked-none line first well = record { inLine = omega arith; well = well; few = omega arith; left = rw (add-zero first) (omega arith) }
+
+module _ (line : List ℕ) (first byte n : ℕ) (so-far : Walked line first byte n) where
+  pub walked-all : length line ≤ byte → n ≡ columnsFrom first (charIndices line)
+  unfolding charsFrom columnsFrom
+  walked-all h = let none : drop byte line ≡ [] = drop-of-length-le line h in omega (arith, rw none at (so-far .left))
+
+  pub columns-room : first ≤ 1024 → length line ≤ 512 → first + n < 2 ^ 64
+  columns-room u w = omega (arith, so-far .inLine, so-far .few)
+
+  module _ (value size count : ℕ) (is : character (drop byte line) ≡ Character value size) (spans : count ≡ span (first + n) value) where
+    pub walked-next : Walked line first (byte + size) (n + count)
+    unfolding columnsFrom
+    walked-next =
+        let fits = size-fits line byte value size is in
+        let four = span-four-columns-at-most (first + n) value in
+        let ahead : n + (span (first + n) value + columnsFrom (first + n + span (first + n) value) (charsFrom (byte + size) 0 (drop (byte + size) line))) ≡ columnsFrom first (charIndices line) =
+        rw (chars-next line byte value size is) at (so-far .left) in
+        record {
+          inLine = fits .1;
+          well = sym (well-next line byte value size is) ∙ so-far .well;
+          few = omega (arith, so-far .few, fits .0);
+          left = rw (spans, ← add-assoc first n (span (first + n) value)) (omega (arith, ahead));
+        }
+
+    pub columns-sum : length line ≤ 512 → n + count < 2 ^ 64
+    columns-sum w = omega (arith, so-far .inLine, so-far .few, span-four-columns-at-most (first + n) value)
+
+  module _ (value size : ℕ) (is : character (drop byte line) ≡ Character value size) where
+    pub bytes-room : length line ≤ 512 → byte + size < 2 ^ 64
+    bytes-room h = omega (arith, size-fits line byte value size is .1)
+
+    pub bytes-left : length line - (byte + size) < length line - byte
+    bytes-left = let (some, fits) = size-fits line byte value size is in omega arith
+
+-- in a plain text each byte is a column
+plain-from : (first at : ℕ) (s : List ℕ) → plain s ≡ true → columnsFrom first (charsFrom at 0 s) ≡ length s
+unfolding columnsFrom charsFrom
+plain-from first at [] e = refl
+plain-from first at (b ∷ s) e = rw (plain-first b s e, plain-span first b s e) (ap (λ (k : ℕ). 1 + k) (plain-from (first + 1) (at + 1) s (plain-rest b s e)) ∙ omega arith)
+
+pub plain-columns : (line : List ℕ) (first : ℕ) (t : Bool) → t ≡ plain line → t ≡ true → length line ≡ columnsFrom first (charIndices line)
+plain-columns line first t is taken = sym (plain-from first 0 line (sym is ∙ taken))

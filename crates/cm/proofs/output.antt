@@ -1,0 +1,2 @@
+-- The lines of a drawing.
+pub mod OutputLaws

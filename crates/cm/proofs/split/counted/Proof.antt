@@ -1,0 +1,20 @@
+-- `cm::split::counted` meets its contract.
+use Rattle.cm.proofs.split.HitLaws.{cond-more, cond-same}
+use borrow.Author.Needs.{needs}
+use Rattle.cm.proofs.split.counted.Statement.{statement}
+use Rattle.cm.proofs.split.counted.Tie as tie
+
+-- src/split.rt:48:31
+add-result : tie.Need-add-result
+add-result c = search needs
+
+-- src/split.rt:44:1
+returns : tie.Need-returns
+returns c = search cond-more
+
+-- src/split.rt:44:1
+returns-2 : tie.Need-returns-2
+returns-2 c = search cond-same
+
+pub counted-spec : {M : Type 1} → statement M
+counted-spec = tie.close (tie.spec add-result returns returns-2)

@@ -1,0 +1,40 @@
+// The columns that a text takes from a column on.
+use characters::known::span_in_set;
+use text::ByteAt;
+use text::Column;
+use utf8::known::Known;
+use utf8::known::known_character;
+use utf8::line_text::is_plain;
+ghost use Prim.Native.Nat.{_≤_};
+ghost use mathlib.Core.Path.{_≡_};
+ghost use mathlib.Core.Bool.{true};
+ghost use lib.ListN.{length};
+ghost use Rattle.text.specs.Columns.{columnsFrom};
+ghost use Rattle.text.specs.Utf8.{charIndices, wellFormed};
+
+// columns, character by character.
+fn columns_decoded(line: &[u8], column: Column) -> usize
+    requires { ⌜ (column .0 ≤ 1024) × (length (now line) ≤ 512) × (wellFormed (now line) ≡ true) ⌝ }
+    ensures { λ r. ⌜ r ≡ columnsFrom (column .0) (charIndices (now (line .entry))) ⌝ }
+{
+    let first = column.0;
+    let mut byte = 0;
+    let mut n = 0;
+    while byte < line.len() {
+        let Known { value, size } = known_character(line, ByteAt(byte));
+        n += span_in_set(value, Column(first + n));
+        byte += size;
+    }
+    n
+}
+
+// In a plain line each byte is a column.
+pub fn columns(line: &[u8], column: Column) -> usize
+    requires { ⌜ (column .0 ≤ 1024) × (length (now line) ≤ 512) × (wellFormed (now line) ≡ true) ⌝ }
+    ensures { λ r. ⌜ r ≡ columnsFrom (column .0) (charIndices (now (line .entry))) ⌝ }
+{
+    if is_plain(line) {
+        return line.len();
+    }
+    columns_decoded(line, column)
+}

@@ -1,0 +1,2 @@
+-- Laws of printing a drawing's lines.
+pub mod PrintLaws

@@ -1,0 +1,4 @@
+-- Laws of where borders stand.
+pub mod StartLaws
+pub mod OffsetLaws
+pub mod FirstLaws

@@ -1,0 +1,3 @@
+-- Laws of the lines of a text.
+pub mod ColumnLaws
+pub mod TrimmedLaws

@@ -1,0 +1,4 @@
+pub mod Lines
+pub mod Cells
+pub mod Needs
+pub mod Measured

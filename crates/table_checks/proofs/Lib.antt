@@ -1,0 +1,4 @@
+pub mod WalkLaws
+pub mod LineLaws
+pub mod PlaceLaws
+pub mod CheckLaws

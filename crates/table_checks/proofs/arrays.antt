@@ -1,0 +1,2 @@
+-- Laws of the sizes and codes of arrays.
+pub mod ArrayLaws

@@ -1,0 +1,2 @@
+-- Laws of the entries of an array.
+pub mod EntryLaws

@@ -1,0 +1,4 @@
+-- Laws of the grid rules.
+pub mod OrderLaws
+pub mod SectionLaws
+pub mod RuleLaws

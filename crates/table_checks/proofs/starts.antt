@@ -1,0 +1,2 @@
+-- Laws of the rows and columns in which cells start.
+pub mod StartLaws

@@ -1,0 +1,5 @@
+pub mod Entries
+pub mod Agreement
+pub mod Places
+pub mod Skyline
+pub mod Checks

@@ -1,0 +1,72 @@
+-- `writer::fill` meets its contract. The invariant: the first i bytes are written.
+use borrow.Author.Needs.{needs}
+use Prim.Native.Nat.{_+_, _-_, _≤_, min}
+use mathlib.Core.Path.{_≡_}
+use lib.ListN.{length, take, replicate}
+use Rattle.writer.specs.Writing.{Wrote}
+use Rattle.writer.proofs.WritingLaws.{written-none, filled-next, filled-all}
+use Rattle.writer.proofs.fill.Statement.{statement}
+use Rattle.writer.proofs.fill.Tie as tie
+
+abbrev Inv-loop : tie.InvT-loop
+Inv-loop b count out₀ at end i₀ out i = (i ≤ end) × (end ≡ min count (length out₀ - at)) × (at ≤ 4294967296) × (length out ≡ length out₀) × Wrote out₀ at (take i (replicate count b)) out (at + i)
+
+abbrev μ-loop : tie.MeasureT-loop
+μ-loop b count out₀ at end i₀ out i = end - i
+
+-- src/lib.rt:48:9
+fitting-requires : tie.Need-fitting-requires Inv-loop μ-loop
+fitting-requires c κs = search needs
+
+-- src/lib.rt:50:5
+loop-holds : tie.Need-loop-holds Inv-loop μ-loop
+loop-holds c = search (needs, written-none)
+
+-- src/lib.rt:51:13
+add-out : tie.Need-add-out Inv-loop μ-loop
+add-out c = search needs
+
+-- src/lib.rt:51:9
+slice-write-out : tie.Need-slice-write-out Inv-loop μ-loop
+slice-write-out c = search needs
+
+-- src/lib.rt:52:9
+add-i : tie.Need-add-i Inv-loop μ-loop
+add-i c = search needs
+
+-- src/lib.rt:50:5
+loop-less : tie.Need-loop-less Inv-loop μ-loop
+loop-less c = search needs
+
+-- src/lib.rt:50:5
+loop-again : tie.Need-loop-again Inv-loop μ-loop
+loop-again c = search (needs, filled-next)
+
+-- src/lib.rt:54:5
+add-result : tie.Need-add-result Inv-loop μ-loop
+add-result c = search needs
+
+-- src/lib.rt:44:1
+same-length : tie.Need-same-length Inv-loop μ-loop
+same-length c = search needs
+
+-- src/lib.rt:44:1
+returns : tie.Need-returns Inv-loop μ-loop
+returns c = search (needs, filled-all)
+
+pub fill-spec : {M : Type 1} → statement M
+fill-spec =
+    tie.close
+    (tie.spec
+    Inv-loop
+    μ-loop
+    fitting-requires
+    loop-holds
+    add-out
+    slice-write-out
+    add-i
+    loop-less
+    loop-again
+    add-result
+    same-length
+    returns)

@@ -11,11 +11,13 @@ use std::{env, fs};
 const VARIABLE: &str = "COMRAK_DIR";
 const LIBRARY: &str = "GRID_LIB_DIR";
 /// The calls that `src/library.rs` declares.
-const CALLS: [&str; 4] = [
+const CALLS: [&str; 6] = [
     "grid_layout",
     "grid_cell_fragment",
     "grid_table",
     "grid_cell",
+    "grid_redraw",
+    "grid_redraw_sheet",
 ];
 
 fn main() {

@@ -58,12 +58,12 @@ fn tight_container(_node: Node<'_>) -> bool {
     false
 }
 
-/// `format_grid_table` at an origin: the drawn rows.
-pub fn draw(table: Node<'_>, origin: usize) -> Vec<String> {
+/// `format_grid_table` at an origin: the drawn rows, each with a line feed.
+pub fn draw(table: Node<'_>, origin: usize) -> String {
     let options = Options::default();
     let mut out = String::new();
     let mut formatter = CommonMarkFormatter::new(table, &options, &mut out);
     formatter.prefix = " ".repeat(origin);
     formatter.format_grid_table(table).unwrap();
-    out.lines().map(str::to_string).collect()
+    out
 }

@@ -2,11 +2,10 @@
 //! the Rust and the second reading.
 
 mod cells;
-mod lent;
+pub mod lent;
 mod lines;
 mod tables;
 
-use std::collections::BTreeMap;
 use std::fmt::Debug;
 
 use crate::against::guarded::{GUARD, Guarded};
@@ -18,6 +17,7 @@ use crate::paper::layout::Layout;
 use crate::paper::sheet::Sheet;
 use crate::paper::{self, Refusal};
 use crate::parser::grid_table::{self, Built, CutLine, PlacedLine};
+use crate::tally::Tally;
 use cells::Cells;
 use tables::Tables;
 
@@ -46,45 +46,11 @@ pub fn run(seed: u64, cuts: usize) -> bool {
         run.random();
     }
     let tally = &run.tally;
-    for (kind, count) in &tally.kinds {
-        println!("{kind}: {count}");
-    }
-    for ((call, number), count) in &tally.numbers {
-        println!("{call} answer {number}: {count}");
-    }
+    tally.print_counts();
     println!("cuts: {}", run.cuts);
     println!("table calls: {}", run.tables.calls);
     println!("cell calls: {}", run.cells.calls);
-    for (what, count) in &tally.differing {
-        println!("differing, {what}: {count}");
-    }
-    println!("differences: {}", tally.differences);
-    tally.differences == 0
-}
-
-#[derive(Default)]
-struct Tally {
-    kinds: BTreeMap<&'static str, usize>,
-    numbers: BTreeMap<(&'static str, usize), usize>,
-    differing: BTreeMap<String, usize>,
-    differences: usize,
-}
-
-impl Tally {
-    fn count(&mut self, kind: &'static str, call: &'static str, number: usize) {
-        *self.kinds.entry(kind).or_default() += 1;
-        *self.numbers.entry((call, number)).or_default() += 1;
-    }
-
-    fn differ(&mut self, what: &str, input: &dyn Debug, expected: &dyn Debug, got: &dyn Debug) {
-        self.differences += 1;
-        *self.differing.entry(what.to_string()).or_default() += 1;
-        if self.differences <= 20 {
-            println!(
-                "DIFFERENCE {what}\n  input    {input:?}\n  expected {expected:?}\n  got      {got:?}"
-            );
-        }
-    }
+    tally.print_differences()
 }
 
 struct Run {
@@ -232,8 +198,7 @@ impl Run {
                 expected
             }
             (Ok(paper), Err(_)) => {
-                let count = self.tally.kinds.entry("accepted lines that are not UTF-8");
-                *count.or_default() += 1;
+                self.tally.kind("accepted lines that are not UTF-8");
                 of_paper(paper)
             }
         };

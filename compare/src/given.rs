@@ -161,8 +161,13 @@ fn tree<'a>(
     table
 }
 
-/// `format_grid_table` on a table that keeps the grid rules.
-pub fn draw(table: &Table, origin: usize) -> Sheet {
+/// Hands over `format_grid_table` on a table that keeps the grid rules, its node
+/// tree ready.
+pub fn with_drawing<T>(
+    table: &Table,
+    origin: usize,
+    f: impl FnOnce(&dyn Fn() -> String) -> T,
+) -> T {
     let mut contents = vec![];
     let all = table.all_lines();
     let mut start = 0;
@@ -177,9 +182,15 @@ pub fn draw(table: &Table, origin: usize) -> Sheet {
     let arena = Arena::new();
     let columns = (&table.alignments[..], &table.widths[..]);
     let root = tree(&arena, columns, &table.sections, &table.places, contents);
-    let lines: Vec<(Vec<u8>, usize)> = cm::draw(root, origin)
-        .into_iter()
-        .map(|line| (line.into_bytes(), origin))
+    f(&|| cm::draw(root, origin))
+}
+
+/// The drawing of a table that keeps the grid rules.
+pub fn draw(table: &Table, origin: usize) -> Sheet {
+    let drawn = with_drawing(table, origin, |draw| draw());
+    let lines: Vec<(Vec<u8>, usize)> = drawn
+        .lines()
+        .map(|line| (line.as_bytes().to_vec(), origin))
         .collect();
     Sheet::of(&lines)
 }

@@ -11,6 +11,12 @@ pub const RECT_SPACE: usize = 4_096;
 /// many lines each cell has.
 pub const START_SPACE: usize = 128;
 pub const COUNT_SPACE: usize = 1_024;
+/// What the redraw call needs: starts, ends, firsts, heights, wides, rects,
+/// canvas.
+pub const DRAW_SPACE: [usize; 7] = [16_384, 16_384, 1_024, 1_024, 1_024, 4_096, 16_384];
+/// The table between reading and redraw: columns, sections, cells, lengths,
+/// text.
+pub const TABLE_SPACE: [usize; 5] = [254, 127, 5_120, 16_384, 32_768];
 
 /// A drawing as it is handed in.
 #[derive(Clone, Copy)]
@@ -105,6 +111,58 @@ pub struct TableReply {
     pub columns: usize,
     pub rows: usize,
     pub cells: usize,
+    pub lines: usize,
+    pub bytes: usize,
+}
+
+/// A table as it is handed in: its numbers of columns, rows, cells, lines and
+/// bytes, and arrays as the table call writes them.
+#[derive(Clone, Copy)]
+pub struct FlatTable<'a> {
+    pub sizes: [usize; 5],
+    pub columns: &'a [u16],
+    pub sections: &'a [u8],
+    pub cells: &'a [u16],
+    pub lengths: &'a [u16],
+    pub text: &'a [u8],
+}
+
+/// Working space of the redraw call.
+pub struct DrawSpace<'a> {
+    pub starts: &'a mut [u16],
+    pub ends: &'a mut [u16],
+    pub firsts: &'a mut [u16],
+    pub heights: &'a mut [u16],
+    pub wides: &'a mut [u16],
+    pub rects: &'a mut [u8],
+    pub canvas: &'a mut [u16],
+}
+
+/// Output arrays of the redraw calls: each line's length and column, and the
+/// lines' text.
+pub struct DrawOutput<'a> {
+    pub lengths: &'a mut [u16],
+    pub columns: &'a mut [u16],
+    pub text: &'a mut [u8],
+}
+
+/// How many lines and bytes were drawn.
+#[repr(C)]
+#[derive(Clone, Copy, PartialEq, Eq, Debug, Default)]
+pub struct RedrawReply {
+    pub number: usize,
+    pub place: usize,
+    pub lines: usize,
+    pub bytes: usize,
+}
+
+/// Step 0 is acceptance, 1 a refusal by reading, 2 one by redraw.
+#[repr(C)]
+#[derive(Clone, Copy, PartialEq, Eq, Debug, Default)]
+pub struct SheetReply {
+    pub step: usize,
+    pub number: usize,
+    pub place: usize,
     pub lines: usize,
     pub bytes: usize,
 }
@@ -265,15 +323,136 @@ pub fn cell(
     }
 }
 
+#[cfg(grid_lib)]
+pub fn redraw(
+    table: FlatTable<'_>,
+    origin: usize,
+    space: DrawSpace<'_>,
+    output: DrawOutput<'_>,
+) -> RedrawReply {
+    let [columns, rows, cells, lines, bytes] = table.sizes;
+    // SAFETY: as for `layout`.
+    unsafe {
+        calls::grid_redraw(
+            origin,
+            columns,
+            rows,
+            cells,
+            lines,
+            bytes,
+            table.columns.as_ptr(),
+            table.columns.len(),
+            table.sections.as_ptr(),
+            table.sections.len(),
+            table.cells.as_ptr(),
+            table.cells.len(),
+            table.lengths.as_ptr(),
+            table.lengths.len(),
+            table.text.as_ptr(),
+            table.text.len(),
+            space.starts.as_mut_ptr(),
+            space.starts.len(),
+            space.ends.as_mut_ptr(),
+            space.ends.len(),
+            space.firsts.as_mut_ptr(),
+            space.firsts.len(),
+            space.heights.as_mut_ptr(),
+            space.heights.len(),
+            space.wides.as_mut_ptr(),
+            space.wides.len(),
+            space.rects.as_mut_ptr(),
+            space.rects.len(),
+            space.canvas.as_mut_ptr(),
+            space.canvas.len(),
+            output.lengths.as_mut_ptr(),
+            output.lengths.len(),
+            output.columns.as_mut_ptr(),
+            output.columns.len(),
+            output.text.as_mut_ptr(),
+            output.text.len(),
+        )
+    }
+}
+
+#[cfg(grid_lib)]
+pub fn redraw_sheet(
+    drawing: Drawing<'_>,
+    origin: usize,
+    reading: (Space<'_>, MoreSpace<'_>),
+    between: TableOutput<'_>,
+    space: DrawSpace<'_>,
+    output: DrawOutput<'_>,
+) -> SheetReply {
+    let (read, more) = reading;
+    // SAFETY: as for `layout`.
+    unsafe {
+        calls::grid_redraw_sheet(
+            origin,
+            drawing.lines,
+            drawing.bytes,
+            drawing.lengths.as_ptr(),
+            drawing.lengths.len(),
+            drawing.columns.as_ptr(),
+            drawing.columns.len(),
+            drawing.text.as_ptr(),
+            drawing.text.len(),
+            read.glyphs.as_mut_ptr(),
+            read.glyphs.len(),
+            read.offsets.as_mut_ptr(),
+            read.offsets.len(),
+            read.down.as_mut_ptr(),
+            read.down.len(),
+            read.right.as_mut_ptr(),
+            read.right.len(),
+            read.rects.as_mut_ptr(),
+            read.rects.len(),
+            more.starts.as_mut_ptr(),
+            more.starts.len(),
+            more.counts.as_mut_ptr(),
+            more.counts.len(),
+            between.columns.as_mut_ptr(),
+            between.columns.len(),
+            between.sections.as_mut_ptr(),
+            between.sections.len(),
+            between.cells.as_mut_ptr(),
+            between.cells.len(),
+            between.lengths.as_mut_ptr(),
+            between.lengths.len(),
+            between.text.as_mut_ptr(),
+            between.text.len(),
+            space.starts.as_mut_ptr(),
+            space.starts.len(),
+            space.ends.as_mut_ptr(),
+            space.ends.len(),
+            space.firsts.as_mut_ptr(),
+            space.firsts.len(),
+            space.heights.as_mut_ptr(),
+            space.heights.len(),
+            space.wides.as_mut_ptr(),
+            space.wides.len(),
+            space.rects.as_mut_ptr(),
+            space.rects.len(),
+            space.canvas.as_mut_ptr(),
+            space.canvas.len(),
+            output.lengths.as_mut_ptr(),
+            output.lengths.len(),
+            output.columns.as_mut_ptr(),
+            output.columns.len(),
+            output.text.as_mut_ptr(),
+            output.text.len(),
+        )
+    }
+}
+
 #[cfg(not(grid_lib))]
-pub use unlinked::{cell, cut, layout, table};
+pub use unlinked::{cell, cut, layout, redraw, redraw_sheet, table};
 
 /// So that the commands compile without the library; they ask first.
 #[cfg(not(grid_lib))]
 mod unlinked {
     use super::{
-        CellReply, CutReply, Cutting, Drawing, LayoutReply, MoreSpace, Output, Space, TableOutput,
-        TableReply,
+        CellReply, CutReply, Cutting, DrawOutput, DrawSpace, Drawing, FlatTable, LayoutReply,
+        MoreSpace, Output, RedrawReply, SheetReply, Space, TableOutput, TableReply,
     };
 
     pub fn layout(_: Drawing<'_>, _: Space<'_>, _: Output<'_>) -> LayoutReply {
@@ -291,11 +470,26 @@ mod unlinked {
     pub fn cell(_: Drawing<'_>, _: Space<'_>, _: &mut [u16], _: usize, _: &mut [u16]) -> CellReply {
         unreachable!()
     }
+
+    pub fn redraw(_: FlatTable<'_>, _: usize, _: DrawSpace<'_>, _: DrawOutput<'_>) -> RedrawReply {
+        unreachable!()
+    }
+
+    pub fn redraw_sheet(
+        _: Drawing<'_>,
+        _: usize,
+        _: (Space<'_>, MoreSpace<'_>),
+        _: TableOutput<'_>,
+        _: DrawSpace<'_>,
+        _: DrawOutput<'_>,
+    ) -> SheetReply {
+        unreachable!()
+    }
 }
 
 #[cfg(grid_lib)]
 mod calls {
-    use super::{CellReply, CutReply, LayoutReply, TableReply};
+    use super::{CellReply, CutReply, LayoutReply, RedrawReply, SheetReply, TableReply};
 
     unsafe extern "C" {
         /// A slice is a pointer and a length.
@@ -399,5 +593,100 @@ mod calls {
             out: *mut u16,
             out_len: usize,
         ) -> CellReply;
+
+        pub fn grid_redraw(
+            origin: usize,
+            columns: usize,
+            rows: usize,
+            cells: usize,
+            lines: usize,
+            bytes: usize,
+            cols: *const u16,
+            cols_len: usize,
+            sections: *const u8,
+            sections_len: usize,
+            cell_numbers: *const u16,
+            cell_numbers_len: usize,
+            lengths: *const u16,
+            lengths_len: usize,
+            text: *const u8,
+            text_len: usize,
+            starts: *mut u16,
+            starts_len: usize,
+            ends: *mut u16,
+            ends_len: usize,
+            firsts: *mut u16,
+            firsts_len: usize,
+            heights: *mut u16,
+            heights_len: usize,
+            wides: *mut u16,
+            wides_len: usize,
+            rects: *mut u8,
+            rects_len: usize,
+            canvas: *mut u16,
+            canvas_len: usize,
+            out_lengths: *mut u16,
+            out_lengths_len: usize,
+            out_columns: *mut u16,
+            out_columns_len: usize,
+            out_text: *mut u8,
+            out_text_len: usize,
+        ) -> RedrawReply;
+
+        pub fn grid_redraw_sheet(
+            origin: usize,
+            lines: usize,
+            bytes: usize,
+            lengths: *const u16,
+            lengths_len: usize,
+            columns: *const u16,
+            columns_len: usize,
+            text: *const u8,
+            text_len: usize,
+            glyphs: *mut u8,
+            glyphs_len: usize,
+            offsets: *mut u16,
+            offsets_len: usize,
+            down: *mut u8,
+            down_len: usize,
+            right: *mut u8,
+            right_len: usize,
+            rects: *mut u8,
+            rects_len: usize,
+            starts: *mut u16,
+            starts_len: usize,
+            counts: *mut u8,
+            counts_len: usize,
+            cols: *mut u16,
+            cols_len: usize,
+            sections: *mut u8,
+            sections_len: usize,
+            cells: *mut u16,
+            cells_len: usize,
+            table_lengths: *mut u16,
+            table_lengths_len: usize,
+            table_text: *mut u8,
+            table_text_len: usize,
+            line_starts: *mut u16,
+            line_starts_len: usize,
+            line_ends: *mut u16,
+            line_ends_len: usize,
+            firsts: *mut u16,
+            firsts_len: usize,
+            heights: *mut u16,
+            heights_len: usize,
+            wides: *mut u16,
+            wides_len: usize,
+            frames: *mut u8,
+            frames_len: usize,
+            canvas: *mut u16,
+            canvas_len: usize,
+            out_lengths: *mut u16,
+            out_lengths_len: usize,
+            out_columns: *mut u16,
+            out_columns_len: usize,
+            out_text: *mut u8,
+            out_text_len: usize,
+        ) -> SheetReply;
     }
 }

@@ -6,6 +6,7 @@ mod arena;
 mod check;
 mod cm;
 mod cuts;
+mod draws;
 mod equations;
 mod given;
 mod html;
@@ -18,6 +19,7 @@ mod paper;
 mod parser;
 mod print;
 mod speed;
+mod tally;
 
 include!(concat!(env!("OUT_DIR"), "/arena_tree_mod.rs"));
 
@@ -36,9 +38,11 @@ const USAGE: &str = "usage: compare self SEED N
        compare equations SEED N DIR
        compare layout [SEED CALLS]
        compare cut [SEED CUTS]
+       compare draw [SEED TABLES]
        compare speed [WORD]
        compare listing
-       compare cells";
+       compare cells
+       compare redraw";
 
 fn main() -> ExitCode {
     let arguments: Vec<String> = std::env::args().skip(1).collect();
@@ -63,10 +67,12 @@ fn run(words: &[&str]) -> Option<io::Result<bool>> {
         ["lists", folder] => Some(lists::write(Path::new(folder)).map(|()| true)),
         ["layout"] => Some(library::linked().map(|()| against::run(against::SEED, against::CALLS))),
         ["cut"] => Some(library::linked().map(|()| cuts::run(cuts::SEED, cuts::CUTS))),
+        ["draw"] => Some(library::linked().map(|()| draws::run(draws::SEED, draws::TABLES))),
         ["speed"] => Some(library::linked().map(|()| speed::run(""))),
         ["speed", word] => Some(library::linked().map(|()| speed::run(word))),
         ["listing"] => Some(print::listing().map(|()| true)),
         ["cells"] => Some(print::cells().map(|()| true)),
+        ["redraw"] => Some(print::redraw().map(|()| true)),
         ["equations", seed, n, folder] => {
             let (seed, n) = (seed.parse().ok()?, n.parse().ok()?);
             Some(equations::write(seed, n, Path::new(folder)).map(|()| true))
@@ -79,6 +85,7 @@ fn run(words: &[&str]) -> Option<io::Result<bool>> {
                 "tables" => Some(print::tables(seed, n).map(|()| true)),
                 "layout" => Some(library::linked().map(|()| against::run(seed, n))),
                 "cut" => Some(library::linked().map(|()| cuts::run(seed, n))),
+                "draw" => Some(library::linked().map(|()| draws::run(seed, n))),
                 _ => None,
             }
         }

@@ -77,6 +77,27 @@ fn table_cells(table: &Table) -> Vec<u8> {
     out
 }
 
+/// The redrawing at origin 0 of the drawing on standard input, an accepted one
+/// from the Rust's layout, cut lines and drawing.
+pub fn redraw() -> io::Result<()> {
+    let mut input = vec![];
+    io::stdin().lock().read_to_end(&mut input)?;
+    let sheet = listing::sheet_of(&input);
+    let redrawn = cut::read_table(&sheet)
+        .and_then(|table| redraw::redraw(&table, 0, redraw::Space::ENOUGH));
+    let printed = match redrawn {
+        Ok(drawn) => {
+            let rust = given::draw(&given::table(&sheet).unwrap(), 0);
+            assert_eq!(rust, drawn);
+            (0..rust.lines)
+                .flat_map(|r| [rust.line(r), b"\n"].concat())
+                .collect()
+        }
+        Err(refusal) => refused(refusal).into_bytes(),
+    };
+    io::stdout().lock().write_all(&printed)
+}
+
 pub fn sheets(seed: u64, n: usize) -> io::Result<()> {
     let mut out = io::stdout().lock();
     let mut rng = Rng::new(seed);

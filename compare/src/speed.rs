@@ -1,7 +1,10 @@
-//! `compare speed`: the layout call beside the Rust's `layout`, and the table
-//! call beside the Rust's layout and fragments, on the same drawings, in turns.
+//! `compare speed`: the layout call beside the Rust's `layout`, the table call
+//! beside the Rust's layout and fragments, and the redraw calls beside its
+//! drawing, on the same inputs, in turns.
 
 mod inputs;
+mod redraws;
+mod tables;
 
 use std::hint::black_box;
 use std::time::{Duration, Instant};
@@ -18,7 +21,7 @@ const SAMPLE: Duration = Duration::from_micros(40);
 /// How long the samples of one row take, both sides together.
 const ROW: Duration = Duration::from_millis(1_500);
 
-/// Times the drawings whose names have this word.
+/// Times the drawings and tables whose names have this word.
 pub fn run(word: &str) -> bool {
     if cfg!(debug_assertions) {
         println!("(not built by --profile speed: the Rust has its own checks on)");
@@ -37,6 +40,7 @@ pub fn run(word: &str) -> bool {
             measure_table(&name, &Sheet::of(&lines), &mut lent);
         }
     }
+    redraws::run(word);
     true
 }
 

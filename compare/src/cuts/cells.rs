@@ -1,6 +1,5 @@
 //! The cell call: the cut lines of one cell of a drawing.
 
-use super::Tally;
 use super::lent::{Inputs, WORKING, Working, fill, written};
 use crate::against::guarded::{Guarded, WIDE_GUARD};
 use crate::library::{self, CellReply};
@@ -9,6 +8,7 @@ use crate::paper::layout::Layout;
 use crate::paper::sheet::Sheet;
 use crate::paper::{Answer, Refusal};
 use crate::parser::grid_table::Built;
+use crate::tally::Tally;
 
 /// Line, start, end and column of each inner line of each cell, out of the
 /// Rust's fragments.

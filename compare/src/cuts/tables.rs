@@ -1,6 +1,5 @@
 //! The table call on whole drawings.
 
-use super::Tally;
 use super::lent::{Inputs, WORKING, Working, fill, written};
 use crate::against::guarded::{GUARD, Guarded, WIDE_GUARD};
 use crate::library::{self, COUNT_SPACE, MoreSpace, TableOutput, TableReply};
@@ -9,6 +8,7 @@ use crate::paper::layout::Layout;
 use crate::paper::sheet::Sheet;
 use crate::paper::{self, Answer, Refusal};
 use crate::parser::grid_table::Built;
+use crate::tally::Tally;
 
 /// A call's answer, and what it writes.
 #[derive(Debug)]

@@ -11,11 +11,11 @@ use crate::paper::table::Table;
 pub const HEAD: &str = "\
 use mathlib.Core.Path.{_≡_, refl}
 use mathlib.Core.List.{List, [], _∷_}
-use Prim.Native.Nat.{ℕ, _-_}
+use Prim.Native.Nat.{ℕ}
 use lib.ListN.{replicate}
 use Rattle.grid.specs.Answer.{accept, refuse}
 use Rattle.grid.specs.Flat.{TableSizes, TableArrays}
-use Rattle.drawing.specs.RedrawCall.{redrawSpace, redrawAnswer, redrawAfterwards}
+use Rattle.drawing.specs.RedrawCall.{RedrawSpace, redrawAnswer, redrawAfterwards}
 use Rattle.drawing.specs.Computing.{redrawing}
 ";
 
@@ -45,9 +45,9 @@ fn case(rng: &mut Rng, i: usize, table: &Table, origin: usize) -> Case {
         assert_eq!(*drawn, given::draw(table, origin));
     });
     let mut case = Case::new("redrawing");
-    let mut space = "redrawSpace";
+    let mut space = working_space(4096);
     if rng.once_in(16) {
-        space = "(redrawSpace - 1)";
+        space = working_space(4095);
         answer = refuse(13, 0);
     }
     let names = ["columns", "rows", "cells", "lines", "bytes"];
@@ -63,9 +63,18 @@ fn case(rng: &mut Rng, i: usize, table: &Table, origin: usize) -> Case {
 
     let expected = answer.map(|drawn| (drawn_sizes(&drawn), arrays_of(drawn)));
     let outputs = Outputs::new(rng, ["lengths", "columns", "text"], expected);
-    let given = format!("{space} {origin} sizes{i} table{i}");
+    case.name(&format!("space{i}"), "RedrawSpace", &space);
+    let given = format!("space{i} {origin} sizes{i} table{i}");
     case.call(&format!("redraw-{i}"), "redraw", &given, &outputs);
     case
+}
+
+/// As the call names it, but for the rectangles'.
+fn working_space(rects: usize) -> String {
+    let names = [
+        "starts", "ends", "firsts", "heights", "wides", "rects", "canvas",
+    ];
+    numbers(&names, &[16384, 16384, 1024, 1024, 1024, rects, 16384])
 }
 
 fn drawn_sizes(drawn: &Sheet) -> String {

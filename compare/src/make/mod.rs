@@ -3,6 +3,7 @@
 pub mod edge;
 pub mod ends;
 pub mod pages;
+pub mod seeking;
 pub mod sheets;
 pub mod tables;
 pub mod text;

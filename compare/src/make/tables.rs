@@ -21,7 +21,7 @@ pub fn table(rng: &mut Rng) -> (Table, usize) {
     }
 }
 
-fn assemble(rng: &mut Rng, places: &[Place], cells: &[Vec<Vec<u8>>]) -> Table {
+pub fn assemble(rng: &mut Rng, places: &[Place], cells: &[Vec<Vec<u8>>]) -> Table {
     let (rows, columns) = tiling::size(places);
     let mut table = Table {
         columns,
@@ -43,7 +43,7 @@ fn assemble(rng: &mut Rng, places: &[Place], cells: &[Vec<Vec<u8>>]) -> Table {
 }
 
 /// Mostly one that redraw accepts.
-fn valid(rng: &mut Rng) -> Table {
+pub fn valid(rng: &mut Rng) -> Table {
     let rows = rng.between(1, 5);
     let columns = rng.between(1, 5);
     let spans = !rng.once_in(4);
@@ -216,7 +216,7 @@ fn damage(rng: &mut Rng, table: &mut Table) {
 }
 
 /// A character outside the set, or bytes that are not UTF-8, in one line.
-fn spoil_text(rng: &mut Rng, table: &mut Table) {
+pub fn spoil_text(rng: &mut Rng, table: &mut Table) {
     if table.lines == 0 {
         return;
     }
@@ -233,7 +233,7 @@ fn spoil_text(rng: &mut Rng, table: &mut Table) {
 }
 
 /// Rows and columns of single cells, each with these lines.
-fn even(rng: &mut Rng, rows: usize, columns: usize, lines: &[Vec<u8>]) -> Table {
+pub fn even(rng: &mut Rng, rows: usize, columns: usize, lines: &[Vec<u8>]) -> Table {
     let places = tiling::tiling(rng, rows, columns, false);
     let cells = vec![lines.to_vec(); places.len()];
     assemble(rng, &places, &cells)

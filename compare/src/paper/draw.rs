@@ -14,8 +14,24 @@ pub struct Plan<'t> {
     pub rules: Vec<usize>,
 }
 
-/// A slot's text: nothing where a character before it reaches over it.
-pub type Canvas = Vec<Vec<String>>;
+/// What stands in a slot: nothing where a character before it reaches over
+/// it; behind a character, the marks that join it.
+#[derive(Clone, Default)]
+pub struct Slot {
+    pub sign: Option<char>,
+    pub marks: String,
+}
+
+impl From<char> for Slot {
+    fn from(sign: char) -> Slot {
+        Slot {
+            sign: Some(sign),
+            marks: String::new(),
+        }
+    }
+}
+
+pub type Canvas = Vec<Vec<Slot>>;
 
 impl<'t> Plan<'t> {
     pub fn new(table: &'t Table) -> Plan<'t> {
@@ -92,18 +108,18 @@ impl<'t> Plan<'t> {
     }
 
     pub fn canvas(&self, origin: usize) -> Canvas {
-        let mut canvas = vec![vec![" ".to_string(); self.width()]; self.height()];
+        let mut canvas = vec![vec![Slot::from(' '); self.width()]; self.height()];
         for cell in 0..self.table.cells {
             let (top, left, bottom, right) = self.borders(cell);
             for y in [top, bottom] {
-                let sign = if self.rules.contains(&y) { "=" } else { "-" };
+                let sign = if self.rules.contains(&y) { '=' } else { '-' };
                 for slot in &mut canvas[y][left + 1..right] {
-                    *slot = sign.to_string();
+                    *slot = sign.into();
                 }
             }
             for line in &mut canvas[top + 1..bottom] {
-                line[left] = "|".to_string();
-                line[right] = "|".to_string();
+                line[left] = '|'.into();
+                line[right] = '|'.into();
             }
         }
         // Corners come after all sides, since a side of one cell may run
@@ -111,12 +127,12 @@ impl<'t> Plan<'t> {
         for cell in 0..self.table.cells {
             let (top, left, bottom, right) = self.borders(cell);
             for (y, x) in [(top, left), (top, right), (bottom, left), (bottom, right)] {
-                canvas[y][x] = "+".to_string();
+                canvas[y][x] = '+'.into();
             }
         }
         for column in 0..self.table.columns {
             for x in self.colons(column) {
-                canvas[self.alignment_line()][x] = ":".to_string();
+                canvas[self.alignment_line()][x] = ':'.into();
             }
         }
         for cell in 0..self.table.cells {
@@ -129,19 +145,17 @@ impl<'t> Plan<'t> {
     }
 }
 
-fn write_line(slots: &mut [String], start: usize, line: &str, origin: usize) {
+fn write_line(slots: &mut [Slot], start: usize, line: &str, origin: usize) {
     let mut x = start;
     let mut last = start - 1;
     for c in line.chars() {
         let columns = set::columns_at(c, origin + x);
         if columns == 0 {
-            slots[last].push(c);
+            slots[last].marks.push(c);
             continue;
         }
-        slots[x] = c.to_string();
-        for covered in &mut slots[x + 1..x + columns] {
-            covered.clear();
-        }
+        slots[x] = c.into();
+        slots[x + 1..x + columns].fill(Slot::default());
         last = x;
         x += columns;
     }
@@ -224,5 +238,14 @@ fn rules(table: &Table, ys: &[usize]) -> Vec<usize> {
 
 /// The drawn lines.
 pub fn lines_of(canvas: &Canvas) -> Vec<Vec<u8>> {
-    canvas.iter().map(|row| row.concat().into_bytes()).collect()
+    canvas.iter().map(|row| line_of(row).into_bytes()).collect()
+}
+
+fn line_of(row: &[Slot]) -> String {
+    let mut line = String::new();
+    for slot in row {
+        line.extend(slot.sign);
+        line.push_str(&slot.marks);
+    }
+    line
 }

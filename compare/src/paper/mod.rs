@@ -4,6 +4,7 @@
 pub mod cut;
 pub mod draw;
 pub mod ends;
+pub mod flat;
 pub mod layout;
 pub mod limits;
 pub mod listing;

@@ -98,8 +98,7 @@ fn sized_canvas(plan: &Plan<'_>, origin: usize) -> Answer<Canvas> {
 /// line between has `|` or `+`.
 fn splits(plan: &Plan<'_>, canvas: &Canvas, cell: usize) -> bool {
     let (top, left, bottom, right) = plan.borders(cell);
-    // A joined mark follows the slot's own character.
-    let glyph = |y: usize, x: usize| canvas[y][x].chars().next();
+    let glyph = |y: usize, x: usize| canvas[y][x].sign;
     (left + 1..right).any(|x| {
         glyph(top, x) == Some('+')
             && glyph(bottom, x) == Some('+')

@@ -15,7 +15,8 @@ use Rattle.grid.specs.declared.TableAlignment.the-variants.{None}
 use Rattle.grid.specs.declared.GridTableSection.the-variants.{Body}
 use Rattle.drawing.specs.Plain.{drawn}
 use Rattle.drawing.specs.Redraw.{redraw}
-use Rattle.html.specs.Shares.{Share, shares}
+use Rattle.html.specs.declared.Share.{Share}
+use Rattle.html.specs.Shares.{shares}
 
 -- a case: what the definitions give and what is expected, both in print
 pub record Case : Type 0 where

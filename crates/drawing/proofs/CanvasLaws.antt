@@ -4,7 +4,7 @@ use Prim.Native.Nat.{ℕ, suc, _+_, _≤_, _<_}
 use mathlib.Core.Path.{_≡_, refl, sym, ap, ap₂, subst, _∙_}
 use mathlib.Core.Bool.{true, _&&_}
 use mathlib.Core.Logic.{_⊎_, inl, inr, ⊎-elim}
-use mathlib.Core.List.{List, [], map, map-map, List·Memᴰ, Memᴰ·map, Memᴰ·of-map}
+use mathlib.Core.List.{List, map, map-map, List·Memᴰ, Memᴰ·map, Memᴰ·of-map}
 use native.Mathlib.Omega.{arith}
 use native.Mathlib.Nat.{le-refl, le-trans}
 use lib.ListN.{length, getD, length-map}
@@ -14,6 +14,7 @@ use Rattle.seq.proofs.Searches.{count-map, count-agree, neighbours-map, neighbo
 use Rattle.seq.proofs.Positions.{getD-map}
 use Rattle.seq.proofs.Pointwise.{pointwise-length, pointwise-at}
 use Rattle.text.specs.Utf8.{wellFormed}
+use Rattle.text.specs.Lines.{noText}
 use Rattle.text.proofs.Utf8Laws.{well-line}
 use Rattle.text.proofs.PartLaws.{well-trimmed}
 use Rattle.grid.specs.Values.{Rect, TableCell, Table}
@@ -25,7 +26,7 @@ use Rattle.grid.specs.declared.GridTableSection.{GridTableSection}
 use Rattle.grid.specs.declared.GridTableSection.the-variants.{Head}
 use Rattle.grid.proofs.DrawnLineLaws.{drawn-line-at}
 use Rattle.drawing.specs.GridRules.{comesBefore, holdsSquare}
-use Rattle.drawing.specs.Sizes.{measure, widest, leastWidth, startWidth, widthNeed, heightNeed, widths, heights, offsets}
+use Rattle.drawing.specs.Sizes.{widest, leastWidth, startWidth, widthNeed, heightNeed, widths, heights, offsets}
 use Rattle.drawing.specs.Plain.{Box, Canvas, boxOf, canvasAt, canvasOf, canvasWidth, canvasHeight}
 use Rattle.drawing.proofs.MeasureLaws.{widest-measure}
 use Rattle.drawing.proofs.FitLaws.{fit-grows, fit-meets}
@@ -226,7 +227,7 @@ module _ {t : Table} (F : Fine t) where
   unfolding boxOf
   cell-fits {c} m i =
       record {
-        well = ap wellFormed (drawn-line-at (c .lines) i) ∙ well-trimmed (getD (c .lines) i []) (well-line (c .lines) (F .well c m) i);
+        well = ap wellFormed (drawn-line-at (c .lines) i) ∙ well-trimmed (getD (c .lines) i noText) (well-line (c .lines) (F .well c m) i);
         fits = omega (arith, cell-broad m, widest-measure (drawnLines (c .lines)) i);
       }
 

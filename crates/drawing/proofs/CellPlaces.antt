@@ -18,7 +18,8 @@ use Rattle.grid.specs.Same.{eachCell, SamePlaces}
 use Rattle.drawing.specs.GridRules.{comesBefore, staysInside, holdsSquare, keepsRules}
 use Rattle.drawing.proofs.KeptLaws.{Lies, lies-stays, stays-lies, keepsRules-kept}
 
-comesBefore-strict : Strict comesBefore
+-- the order of cells is strict
+pub comesBefore-strict : Strict comesBefore
 comesBefore-strict =
     record {
       irreflexive = λ a.

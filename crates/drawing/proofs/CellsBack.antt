@@ -4,7 +4,7 @@ use Prim.Native.Nat.{ℕ, suc, _+_, _-_, _≤_, _<_}
 use mathlib.Core.Path.{_≡_, sym, ap, subst, _∙_}
 use mathlib.Core.Bool.{true, false}
 use mathlib.Core.Logic.{_⊎_, inl, inr, ⊎-elim}
-use mathlib.Core.List.{List, [], map, map-map, List·Memᴰ, Memᴰ·map}
+use mathlib.Core.List.{List, map, map-map, List·Memᴰ, Memᴰ·map}
 use native.Mathlib.Omega.{arith}
 use native.Mathlib.Nat.{eq-or-lt-of-le}
 use lib.ListN.{length, getD}
@@ -12,6 +12,7 @@ use Rattle.seq.specs.Lists.{count}
 use Rattle.seq.proofs.Searches.{count-map}
 use Rattle.seq.proofs.Positions.{getD-mem}
 use Rattle.seq.proofs.FlatMaps.{map-same}
+use Rattle.text.specs.Lines.{noText}
 use Rattle.grid.specs.Values.{Line, Rect, TableCell, Table}
 use Rattle.grid.specs.Slots.{Grid, gridOf}
 use Rattle.grid.specs.Trace.{covered, trace}
@@ -187,7 +188,7 @@ module _ {t : Table} (F : Fine t) (o : ℕ) where
         (λ i w.
         let e : b .frame .top + 1 + i - b .frame .top - 1 ≡ i = omega arith in
         cutAt-box L o n (b .frame .top + 1 + i) (omega arith) (omega arith) (drawn-trimmed (c .lines) (b .frame .top + 1 + i - b .frame .top - 1))
-        ∙ ap (λ (j : ℕ). getD (drawnLines (c .lines)) j []) e) (omega (arith, cell-tall F m))
+        ∙ ap (λ (j : ℕ). getD (drawnLines (c .lines)) j noText) e) (omega (arith, cell-tall F m))
         ∙ drawn-dropped (c .lines)
 
     row-back : {c : TableCell} → List·Memᴰ c (t .cells) → cellRead g fs (cellBox t c .frame) .row ≡ c .row

@@ -14,8 +14,9 @@ use Rattle.text.specs.Characters.{space}
 use Rattle.text.specs.Utf8.{charsFrom, charIndices}
 use Rattle.text.specs.Columns.{columnsFrom}
 use Rattle.text.specs.Trim.{trimEnd}
+use Rattle.text.specs.Lines.{noText}
 use Rattle.text.proofs.SpanLaws.{Spans, spans-cast, spans-append, spans-single, spans-spaces, single-space}
-use Rattle.grid.specs.Values.{Line}
+use Rattle.grid.specs.Values.{Line, noLine}
 use Rattle.grid.specs.Slots.{Grid, Slot, Other, vertical, glyphOf, slotsFrom, gridOf, slotAt, glyphAt, byteAt}
 use Rattle.grid.specs.Layout.{contentAt}
 use Rattle.grid.specs.Cut.{part, afterFirst, cut}
@@ -64,8 +65,8 @@ module _ {v : Canvas} (L : Lined v) (o : ℕ) {b : Box} (m : List·Memᴰ b (v .
       ∙ ap length to-right ∙ length-append Before (innerLine o b y)
 
   -- the text of line y as reading gets it
-  canvasLines-text : getD (canvasLines o v) y (record { text = []; column = 0 }) .text ≡ flat o v y 0 (canvasWidth v)
-  canvasLines-text = ap (λ (l : Line). l .text) (canvasLines-at o v y (record { text = []; column = 0 }) low) ∙ drawnLine-text o v y
+  canvasLines-text : getD (canvasLines o v) y noLine .text ≡ flat o v y 0 (canvasWidth v)
+  canvasLines-text = ap (λ (l : Line). l .text) (canvasLines-at o v y noLine low) ∙ drawnLine-text o v y
 
   -- the part after the left border up to the right border
   part-inner : part (contentAt g (b .frame) y) (flat o v y 0 (canvasWidth v)) ≡ innerLine o b y
@@ -74,20 +75,20 @@ module _ {v : Canvas} (L : Lined v) (o : ℕ) {b : Box} (m : List·Memᴰ b (v .
       let e : byteAt g y (b .frame .right) - (byteAt g y (b .frame .left) + 1) ≡ length (innerLine o b y) = omega (arith, byteAt-left, byteAt-right) in
       rw (e, byteAt-left, flat-around (L .written) o y low m u w, drop-append-seam Before (innerLine o b y ++ rest)) (take-append-seam (innerLine o b y) rest)
 
-  pub cutAt-box : trimEnd (getD (b .lines) (y - b .frame .top - 1) []) ≡ getD (b .lines) (y - b .frame .top - 1) []
-      → cutAt (canvasLines o v) g (b .frame) y .text ≡ getD (b .lines) (y - b .frame .top - 1) []
+  pub cutAt-box : trimEnd (getD (b .lines) (y - b .frame .top - 1) noText) ≡ getD (b .lines) (y - b .frame .top - 1) noText
+      → cutAt (canvasLines o v) g (b .frame) y .text ≡ getD (b .lines) (y - b .frame .top - 1) noText
   unfolding cut innerLine
   cutAt-box h =
-      let given = getD (canvasLines o v) y (record { text = []; column = 0 }) in
+      let given = getD (canvasLines o v) y noLine in
       ap (λ (l : List ℕ). afterFirst (trimEnd (part (contentAt g (b .frame) y) l)) y (0 + (byteAt g y (b .frame .left) + 1)) (given .column + b .frame .left + 1) .text) canvasLines-text
       ∙ ap (λ (l : List ℕ). afterFirst (trimEnd l) y (0 + (byteAt g y (b .frame .left) + 1)) (given .column + b .frame .left + 1) .text) part-inner
-      ∙ inner-cut (getD (b .lines) (y - b .frame .top - 1) []) (b .frame .right - b .frame .left - 2 - textColumns o b y) y (0 + (byteAt g y (b .frame .left) + 1)) (given .column + b .frame .left + 1) h
+      ∙ inner-cut (getD (b .lines) (y - b .frame .top - 1) noText) (b .frame .right - b .frame .left - 2 - textColumns o b y) y (0 + (byteAt g y (b .frame .left) + 1)) (given .column + b .frame .left + 1) h
 
   -- ---- at a column inside
 
   -- the box's line, and its columns
   abbrev text : List ℕ
-  text = getD (b .lines) (y - b .frame .top - 1) []
+  text = getD (b .lines) (y - b .frame .top - 1) noText
 
   abbrev n : ℕ
   n = textColumns o b y
@@ -172,7 +173,7 @@ module _ {v : Canvas} (L : Lined v) (o : ℕ) {b : Box} (m : List·Memᴰ b (v .
       let some-text : 0 < length text = ⊎-elim (λ (k : length text ≤ 0). absurd (omega (arith, empty-text (omega arith)))) (λ k. k) (le-or-lt (length text) 0) in
       let B = byteAt g y (b .frame .left) + 1 in
       let D = byteAt g y c in
-      let given = getD (canvasLines o v) y (record { text = []; column = 0 }) in
+      let given = getD (canvasLines o v) y noLine in
       let start = byteAt-left in
       let r = tail-space in
       let tail : drop B (given .text) ≡ space ∷ r .0 =

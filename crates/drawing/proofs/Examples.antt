@@ -18,6 +18,7 @@ use Rattle.drawing.specs.GridRules.{keepsRules, inOrder, allInside, cove
 use Rattle.drawing.specs.Sizes.{widths, heights}
 use Rattle.drawing.specs.Plain.{drawn}
 use Rattle.drawing.specs.Redraw.{redraw}
+use Rattle.drawing.specs.Listing.{redrawListing}
 use Rattle.drawing.proofs.ExamplesTables.{shown, col, cell, text1, mark, marks, declared, alone, under, parts}
 
 -- Sizes
@@ -213,3 +214,13 @@ each-rule-alone = refl
 keeps-all : keepsRules (two (cell 0 0 2 1 [] ∷ cell 1 0 1 1 [] ∷ cell 1 1 1 1 [] ∷ [])) ≡ true
 unfolding redrawing
 keeps-all = refl
+
+-- What the program prints
+
+printed-afresh : redrawListing (ascii "+---+\n|a  |\n+---+") ≡ ascii "+---+\n| a |\n+---+\n"
+unfolding redrawing
+printed-afresh = refl
+
+refusal-printed : redrawListing (ascii "+---+\n|a |\n+---+\n") ≡ ascii "refused 5 1\n"
+unfolding redrawing
+refusal-printed = refl

@@ -17,7 +17,7 @@ use Rattle.text.specs.Characters.{space, plus, colon}
 use Rattle.text.specs.Utf8.{charIndices}
 use Rattle.text.specs.Trim.{trimEnd}
 use Rattle.text.specs.Rule.{isRule}
-use Rattle.grid.specs.Values.{Line, Table}
+use Rattle.grid.specs.Values.{Line, Table, noLine}
 use Rattle.grid.specs.Slots.{Grid, Slot, Plus, Other, dash, equals, pipe, horizontal, vertical, glyphOf, slotsFrom, lineSlots, trimmedAt, isSeparator, gridOf, slotAt, glyphAt}
 use Rattle.grid.specs.Cover.{Bordered}
 use Rattle.grid.proofs.SlotLaws.{row-at}
@@ -67,14 +67,14 @@ module _ {v : Canvas} (L : Lined v) (o : ℕ) where
 
   pub trimmedAt-flat : (y : ℕ) → y < H → trimmedAt lines y ≡ flat o v y 0 W
   trimmedAt-flat y u =
-      ap (λ (l : Line). trimEnd (l .text)) (canvasLines-at o v y (record { text = []; column = 0 }) u) ∙ ap trimEnd (drawnLine-text o v y) ∙ flat-trimmed (L .written) o y u
+      ap (λ (l : Line). trimEnd (l .text)) (canvasLines-at o v y noLine u) ∙ ap trimEnd (drawnLine-text o v y) ∙ flat-trimmed (L .written) o y u
 
   -- the slots of line y
   pub rows-flat : (y : ℕ) → y < H → getD (g .rows) y [] ≡ slotsFrom (ruleAt o v y) o (charIndices (flat o v y 0 W))
   unfolding lineSlots
   rows-flat y u =
       row-at lines y (omega (arith, canvasLines-length o v))
-      ∙ ap (λ (l : Line). lineSlots (ruleAt o v y) l) (canvasLines-at o v y (record { text = []; column = 0 }) u)
+      ∙ ap (λ (l : Line). lineSlots (ruleAt o v y) l) (canvasLines-at o v y noLine u)
       ∙ ap (λ (c : ℕ). slotsFrom (ruleAt o v y) c (charIndices (trimEnd (drawnLine o v y .text)))) (drawnLine-column o v y)
       ∙ ap (λ (l : List ℕ). slotsFrom (ruleAt o v y) o (charIndices (trimEnd l))) (drawnLine-text o v y)
       ∙ ap (λ (l : List ℕ). slotsFrom (ruleAt o v y) o (charIndices l)) (flat-trimmed (L .written) o y u)

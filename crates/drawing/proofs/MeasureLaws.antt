@@ -14,6 +14,7 @@ use Rattle.seq.proofs.Tests.{bool-cases}
 use Rattle.text.specs.Characters.{tab, span}
 use Rattle.text.specs.Utf8.{CharIndex, charsFrom, charIndices}
 use Rattle.text.specs.Columns.{columnsFrom}
+use Rattle.text.specs.Lines.{noText}
 use Rattle.text.proofs.CharactersLaws.{span-tab, span-other, tab-four-columns-at-most}
 use Rattle.drawing.specs.Sizes.{measure, widest}
 
@@ -36,7 +37,7 @@ unfolding columnsFrom sum
 columns-measure c [] = omega arith
 columns-measure c (x ∷ cs) = omega (arith, span-measure c x, columns-measure (c + span c (x .value)) cs)
 
-pub widest-measure : (ls : List (List ℕ)) (i : ℕ) → sum (map measure (charIndices (getD ls i []))) ≤ widest ls
+pub widest-measure : (ls : List (List ℕ)) (i : ℕ) → sum (map measure (charIndices (getD ls i noText))) ≤ widest ls
 unfolding widest largest sum charsFrom
 widest-measure [] i = omega arith
 widest-measure (l ∷ ls) zero = omega arith

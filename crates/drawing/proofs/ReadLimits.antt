@@ -3,7 +3,7 @@ use Prim.Native.Nat.{ℕ, _-_, _≤_, _<_}
 use mathlib.Core.Path.{_≡_, refl, sym, ap, subst, _∙_}
 use mathlib.Core.Bool.{Bool, true, false, not, _&&_}
 use mathlib.Core.Option.{none}
-use mathlib.Core.List.{List, [], map, flatMap, List·Memᴰ, Memᴰ·of-map}
+use mathlib.Core.List.{List, map, flatMap, List·Memᴰ, Memᴰ·of-map}
 use native.Mathlib.Omega.{arith}
 use lib.Dec.{ltb}
 use lib.ListN.{length, getD, length-map}
@@ -18,6 +18,7 @@ use Rattle.seq.proofs.Gathered.{first-nowhere}
 use Rattle.seq.proofs.Positions.{getD-mem}
 use Rattle.seq.proofs.Sums.{sum-le, sum-flatMap}
 use Rattle.text.specs.Utf8.{wellFormed}
+use Rattle.text.specs.Lines.{noText}
 use Rattle.grid.specs.Values.{Line, Rect, GridTableColumn, TableCell, Table}
 use Rattle.grid.specs.Answer.{Answer, accept, refuseIf, refuseAt}
 use Rattle.grid.specs.Slots.{Grid, gridOf}
@@ -147,7 +148,7 @@ module _ (lines : List Line) (rs : List Rect) (checks : Passed lines rs) where
 
   in-set : tableOutsideSet t ≡ none
   unfolding tableOutsideSet
-  in-set = first-nowhere (λ line. not (wellFormed line)) (tableLines t) [] (λ j h. line-well (getD (tableLines t) j []) (getD-mem (tableLines t) j [] h))
+  in-set = first-nowhere (λ line. not (wellFormed line)) (tableLines t) noText (λ j h. line-well (getD (tableLines t) j noText) (getD-mem (tableLines t) j noText h))
 
   -- ---- 9
   first-line : getD (rowLines g rs) 0 0 ≡ 0

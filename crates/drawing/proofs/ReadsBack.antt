@@ -19,7 +19,7 @@ use Rattle.text.specs.Utf8.{wellFormed}
 use Rattle.text.specs.Rule.{isRule}
 use Rattle.grid.specs.Answer.{accept}
 use Rattle.grid.specs.Limits.{maxWidth}
-use Rattle.grid.specs.Values.{Line, GridTableColumn, Table}
+use Rattle.grid.specs.Values.{Line, GridTableColumn, Table, noLine}
 use Rattle.grid.specs.Slots.{dash}
 use Rattle.grid.specs.Layout.{columnsRead, layoutOf}
 use Rattle.grid.specs.Cut.{tableOf}
@@ -57,7 +57,7 @@ module _ {t : Table} (F : Fine t) (o : ℕ) where
   H = canvasHeight (canvasOf t)
 
   abbrev d : Line
-  d = record { text = []; column = 0 }
+  d = noLine
 
   some-lines : isEmpty (lines F o) ≡ false
   some-lines = length-some (lines F o) (omega (arith, canvasLines-length o v, zero-low (L F o) o))

@@ -10,7 +10,7 @@ use mathlib.Core.List.{List, [], _∷_, _++_, map, flatMap, append-nil, List·Me
 use native.Mathlib.Omega.{arith}
 use native.Mathlib.Nat.{le-refl, eq-or-lt-of-le}
 use lib.Dec.{eqb}
-use borrow.Author.Tests.{eqb-true, eq-eqb}
+use borrow.Author.Tests.{eqb-true, eqb-false, eq-eqb, ne-eqb}
 use lib.ListN.{length, getD, replicate}
 use Rattle.seq.specs.Lists.{range, sum, any}
 use Rattle.seq.proofs.Tests.{true-not-false, cond-either, and-left, and-right, and-intro, refused, le-or-lt}
@@ -21,6 +21,7 @@ use Rattle.text.specs.Characters.{space, plus}
 use Rattle.text.specs.Utf8.{charIndices, wellFormed}
 use Rattle.text.specs.Columns.{columnsFrom}
 use Rattle.text.specs.Trim.{blank, trimEnd}
+use Rattle.text.specs.Lines.{noText}
 use Rattle.text.proofs.TrimLaws.{trim-kept}
 use Rattle.text.proofs.SpanLaws.{Spans, Single, spans-empty, spans-cast, spans-append, spans-single, spans-spaces, single-space}
 use Rattle.grid.specs.Slots.{Slot, glyphOf, slotsFrom, pipe}
@@ -32,8 +33,8 @@ use Rattle.drawing.proofs.BoxLaws.{Within, Tiled, border, box-verticalA
 
 -- ---- what a box's lines must be
 pub record Fits (b : Box) (i : ℕ) : Type 0 where
-  pub well : wellFormed (getD (b .lines) i []) ≡ true
-  pub fits : sum (map measure (charIndices (getD (b .lines) i []))) + b .frame .left + 2 ≤ b .frame .right
+  pub well : wellFormed (getD (b .lines) i noText) ≡ true
+  pub fits : sum (map measure (charIndices (getD (b .lines) i noText))) + b .frame .left + 2 ≤ b .frame .right
 
 -- boxes that hold every square once, with lines that fit them
 pub record Written (v : Canvas) : Type 0 where
@@ -42,19 +43,19 @@ pub record Written (v : Canvas) : Type 0 where
 
 -- the columns of the text that box b has on line y
 abbrev pub textColumns : ℕ → Box → ℕ → ℕ
-textColumns o b y = columnsFrom (o + b .frame .left + 2) (charIndices (getD (b .lines) (y - b .frame .top - 1) []))
+textColumns o b y = columnsFrom (o + b .frame .left + 2) (charIndices (getD (b .lines) (y - b .frame .top - 1) noText))
 
 pub text-fits : (o : ℕ) (b : Box) (y : ℕ) → Fits b (y - b .frame .top - 1) → textColumns o b y + b .frame .left + 2 ≤ b .frame .right
-text-fits o b y t = omega (arith, t .fits, columns-measure (o + b .frame .left + 2) (charIndices (getD (b .lines) (y - b .frame .top - 1) [])))
+text-fits o b y t = omega (arith, t .fits, columns-measure (o + b .frame .left + 2) (charIndices (getD (b .lines) (y - b .frame .top - 1) noText)))
 
-pub text-spans : (o : ℕ) (b : Box) (y : ℕ) → Fits b (y - b .frame .top - 1) → Spans (o + (b .frame .left + 1) + 1) (getD (b .lines) (y - b .frame .top - 1) []) (textColumns o b y)
-text-spans o b y t = record { well = t .well; takes = ap (λ (c : ℕ). columnsFrom c (charIndices (getD (b .lines) (y - b .frame .top - 1) []))) (omega arith) }
+pub text-spans : (o : ℕ) (b : Box) (y : ℕ) → Fits b (y - b .frame .top - 1) → Spans (o + (b .frame .left + 1) + 1) (getD (b .lines) (y - b .frame .top - 1) noText) (textColumns o b y)
+text-spans o b y t = record { well = t .well; takes = ap (λ (c : ℕ). columnsFrom c (charIndices (getD (b .lines) (y - b .frame .top - 1) noText))) (omega arith) }
 
 innerLine-spans : (o : ℕ) (b : Box) (y : ℕ) → Fits b (y - b .frame .top - 1) → Spans (o + (b .frame .left + 1)) (innerLine o b y) (b .frame .right - (b .frame .left + 1))
 unfolding innerLine
 innerLine-spans o b y t =
     let c : ℕ = o + (b .frame .left + 1) in
-    let line : List ℕ = getD (b .lines) (y - b .frame .top - 1) [] in
+    let line : List ℕ = getD (b .lines) (y - b .frame .top - 1) noText in
     let n : ℕ = textColumns o b y in
     let k : ℕ = b .frame .right - b .frame .left - 2 - n in
     spans-cast {a = space ∷ line ++ replicate k space} (omega (arith, text-fits o b y t))
@@ -137,30 +138,24 @@ module _ {v : Canvas} (P : Tiled v) (o : ℕ) {b : Box} (m : List·Memᴰ b (v .
   not-later x c k h q =
       omega (arith, eqb-true x (c .frame .left + 1) (and-left (eqb x (c .frame .left + 1)) (isInside (c .frame .top) (c .frame .bottom) y) h), ap (λ (z : Box). z .frame .left) q)
 
-  first-within : Within b y (b .frame .left + 1)
-  first-within = record { top = u; bottom = w; left = omega arith; right = omega (arith, P .sized b m .broad) }
-
-  found-here : startsInside v y (b .frame .left + 1) ≡ some b
+  starts-first : (x : ℕ) → Within b y x → (first : Bool) → eqb x (b .frame .left + 1) ≡ first → startsInside v y x ≡ cond first (some b) none
   unfolding startsInside startsAt
-  found-here =
-      find-only (startsAt (b .frame .left + 1)) m (and-intro (eq-eqb (b .frame .left + 1) (b .frame .left + 1) refl) (between-isInside _ _ y u w))
-      (λ c n h. starts-touch (b .frame .left + 1) c n first-within h)
+  starts-first x i true e = find-only (startsAt x) m (and-intro e (between-isInside _ _ y u w)) (λ c n h. starts-touch x c n i h)
+  starts-first x i false e =
+      find-nothing (startsAt x) (v .boxes)
+      (λ c n. refused (startsAt x c) (λ h. not-later x c (omega (arith, i .left, eqb-false x (b .frame .left + 1) e)) h (starts-touch x c n i h)))
 
-  pub putDown-inner : putDown o v y (b .frame .left + 1) ≡ innerLine o b y
+  -- Inside a box, what a column puts down depends on the box's lines only at the first inner column: that one puts down the whole inner
+  -- line, the others nothing.
+  pub putDown-inside : (x : ℕ) → b .frame .left < x → x < b .frame .right → putDown o v y x ≡ cond (eqb x (b .frame .left + 1)) (innerLine o b y) []
   unfolding putDown
-  putDown-inner =
-      let x : ℕ = b .frame .left + 1 in
-      rw (inside-no-corner P m y x first-within, inside-no-horizontal P m y x first-within, inside-no-vertical P m y x first-within, found-here)
-
-  found-none : (x : ℕ) → Within b y x → b .frame .left + 1 < x → startsInside v y x ≡ none
-  unfolding startsInside startsAt
-  found-none x i k = find-nothing (startsAt x) (v .boxes) (λ c n. refused (startsAt x c) (λ h. not-later x c k h (starts-touch x c n i h)))
-
-  putDown-later : (x : ℕ) → b .frame .left + 1 < x → x < b .frame .right → putDown o v y x ≡ []
-  unfolding putDown
-  putDown-later x k l =
-      let i : Within b y x = record { top = u; bottom = w; left = omega arith; right = l } in
-      rw (inside-no-corner P m y x i, inside-no-horizontal P m y x i, inside-no-vertical P m y x i, found-none x i k)
+  putDown-inside x k l =
+      let i : Within b y x = record { top = u; bottom = w; left = k; right = l } in
+      rw (inside-no-corner P m y x i, inside-no-horizontal P m y x i, inside-no-vertical P m y x i, starts-first x i (eqb x (b .frame .left + 1)) refl)
+      (inner-of (eqb x (b .frame .left + 1))) where
+        inner-of : (first : Bool) → innerOf o y (cond first (some b) none) ≡ cond first (innerLine o b y) []
+        inner-of true = refl
+        inner-of false = refl
 
   pub border-left : border v y (b .frame .left) ≡ true
   border-left = verticalAt-border v y _ (box-verticalAt v m y (b .frame .left) (inl refl) u w)
@@ -174,7 +169,10 @@ module _ {v : Canvas} (P : Tiled v) (o : ℕ) {b : Box} (m : List·Memᴰ b (v .
       let l : ℕ = b .frame .left in
       let n : ℕ = b .frame .right - l - 2 in
       let e : b .frame .right - (l + 1) ≡ suc n = omega (arith, s .broad) in
-      rw (e, flat-next, putDown-inner, flat-empty o v y (l + 1 + 1) n (λ k i j. putDown-later k (omega arith) (omega (arith, s .broad)))) (append-nil (innerLine o b y))
+      let later : (k : ℕ) → l + 1 + 1 ≤ k → k < l + 1 + 1 + n → putDown o v y k ≡ [] =
+      λ k i j. putDown-inside k (omega arith) (omega (arith, s .broad)) ∙ rw (ne-eqb k (l + 1) (λ q. omega arith)) refl in
+      rw (e, flat-next, putDown-inside (l + 1) (omega arith) (omega (arith, s .broad)), eq-eqb (l + 1) (l + 1) refl, flat-empty o v y (l + 1 + 1) n later)
+      (append-nil (innerLine o b y))
 
   flat-box : flat o v y (b .frame .left) (b .frame .right - b .frame .left) ≡ edgeByte v y (b .frame .left) ∷ innerLine o b y
   flat-box =

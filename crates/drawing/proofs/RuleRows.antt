@@ -19,7 +19,7 @@ use Rattle.text.proofs.RuleBytes.{Ruling, rule-of-bytes, second-no-rule}
 use Rattle.grid.specs.Slots.{dash, equals}
 use Rattle.drawing.specs.Plain.{Box, Canvas, canvasWidth, canvasHeight, cornerAt, horizontalAt, verticalAt, alignmentRow, drawsColon, colonAt, borderByte, innerLine, putDown}
 use Rattle.drawing.proofs.BoxLaws.{Within, Tiled, border, End, cornerAt-box, horizontalAt-box, verticalAt-box, box-at, border-or-inside}
-use Rattle.drawing.proofs.RowLaws.{Written, edgeByte, putDown-border, putDown-inner, flat, flat-next, border-first}
+use Rattle.drawing.proofs.RowLaws.{Written, edgeByte, putDown-border, putDown-inside, flat, flat-next, border-first}
 
 -- a side of a box
 abbrev pub Side : Box → ℕ → Type 0
@@ -240,7 +240,7 @@ module _ {v : Canvas} (L : Lined v) where
       inner : (b : Box) × List·Memᴰ b (v .boxes) × Within b y 1 → (r : List ℕ) × ((putDown o v y 1 ≡ dash ∷ r) ⊎ (putDown o v y 1 ≡ space ∷ r))
       inner (b, m, w) =
           let e : b .frame .left + 1 ≡ 1 = omega (arith, w .left) in
-          (_, inr (rw e at (putDown-inner P o m y (w .top) (w .bottom))))
+          (_, inr (rw e at (putDown-inside P o m y (w .top) (w .bottom) 1 (w .left) (w .right))))
 
     pub flat-no-rule : isRule equals (flat o v y 0 (canvasWidth v)) ≡ false
     flat-no-rule =

@@ -17,6 +17,7 @@ use Rattle.seq.proofs.Searches.{all-range}
 use Rattle.seq.proofs.Finds.{FirstPass, nowhere, here, first-pass}
 use Rattle.seq.proofs.Positions.{getD-map, getD-map-at, getD-range}
 use Rattle.text.specs.Trim.{trimEnd}
+use Rattle.text.specs.Lines.{noText}
 use Rattle.text.proofs.TrimLaws.{trim-shorter}
 use Rattle.grid.specs.Limits.{maxWidth}
 use Rattle.grid.specs.Values.{Rect, GridTableColumn, TableCell, Table}
@@ -125,14 +126,14 @@ module _ {t : Table} (F : Fine t) (o : ℕ) (rs : List Rect) (checks : Passed (l
     some-inner : 0 < frame k .bottom - frame k .top - 1
     some-inner = omega (arith, cell-sized F k-in .tall)
 
-    first-line : getD (cell (lines F o) (g F o) rs cover p .lines) 0 [] ≡ first-cut
+    first-line : getD (cell (lines F o) (g F o) rs cover p .lines) 0 noText ≡ first-cut
     unfolding first-cut p
     first-line =
         let inner = innerLines p in
         let made : ℕ → List ℕ = λ y. cutAt (lines F o) (g F o) p y .text in
-        ap (λ (l : List (List ℕ)). getD l 0 []) (cell-lines (lines F o) (g F o) rs cover p-in)
+        ap (λ (l : List (List ℕ)). getD l 0 noText) (cell-lines (lines F o) (g F o) rs cover p-in)
         ∙ dropped-at (map made inner) 0
-        ∙ getD-map made inner 0 [] 0 (omega (arith, some-inner, length-range (frame k .top + 1) (frame k .bottom - frame k .top - 1)))
+        ∙ getD-map made inner 0 noText 0 (omega (arith, some-inner, length-range (frame k .top + 1) (frame k .bottom - frame k .top - 1)))
         ∙ ap made (getD-range (frame k .top + 1) (frame k .bottom - frame k .top - 1) 0 0 some-inner ∙ omega arith)
 
     -- the column at which the cell splits stands as a border in its first line
@@ -144,7 +145,7 @@ module _ {t : Table} (F : Fine t) (o : ℕ) (rs : List Rect) (checks : Passed (l
         (and-right (plusAt (g F o) (q .top) (P .column) && plusAt (g F o) (q .bottom) (P .column)) (all (λ y. vertical (glyphAt (g F o) y (P .column))) (innerLines q)) (P .split))
         (q .top + 1) (le-refl _) (omega (arith, some-inner))
 
-    shorter : length first-cut < length (getD (drawnLines (k .lines)) 0 [])
+    shorter : length first-cut < length (getD (drawnLines (k .lines)) 0 noText)
     unfolding first-cut p boxOf
     shorter =
         let q = frame k in
@@ -153,8 +154,8 @@ module _ {t : Table} (F : Fine t) (o : ℕ) (rs : List Rect) (checks : Passed (l
 
     differs : ⊥
     differs =
-        let d : trimEnd first-cut ≡ getD (drawnLines (k .lines)) 0 [] =
-        ap trimEnd (sym first-line) ∙ sym (drawn-line-at (cell (lines F o) (g F o) rs cover p .lines) 0) ∙ ap (λ (l : List (List ℕ)). getD l 0 []) lines-same in
+        let d : trimEnd first-cut ≡ getD (drawnLines (k .lines)) 0 noText =
+        ap trimEnd (sym first-line) ∙ sym (drawn-line-at (cell (lines F o) (g F o) rs cover p .lines) 0) ∙ ap (λ (l : List (List ℕ)). getD l 0 noText) lines-same in
         omega (arith, ap length d, trim-shorter first-cut, shorter)
 
   unsplit : Unsplit F o

@@ -51,6 +51,15 @@ sheet-room t e =
       text = ltb-false (length (t .text)) maxBytes (p .1);
     }
 
+-- Where the arrays between the steps, or redraw's working space, are too short, the call answers 13 and writes nothing.
+pub sheet-short : (w : LayoutSpace) (s : TableSpace) (h : SheetSpace) (v : RedrawSpace) (d : FlatDrawing) (o : ℕ) (out : DrawingArrays)
+    → sheetSpaceShort h || redrawSpaceShort v ≡ true → (unread 13 0 ≡ sheetAnswer w s h v d o out) × (out ≡ sheetAfterwards w s h v d o out)
+unfolding sheetAnswer sheetAfterwards sheetAccepts
+sheet-short w s h v d o out e = rw (either (readContradicts w (tableSpaceShort s) d) (sheetSpaceShort h) (redrawSpaceShort v) e) (refl, refl) where
+  either : (r t u : Bool) → t || u ≡ true → r || t || u ≡ true
+  either true t u f = refl
+  either false t u f = f
+
 -- ---- the two calls one after the other, the table's arrays `between` them
 module _ (w : LayoutSpace) (s : TableSpace) (between : TableArrays) (v : RedrawSpace) (d : FlatDrawing) (o : ℕ) (out : DrawingArrays) where
   abbrev h : SheetSpace
@@ -61,16 +70,6 @@ module _ (w : LayoutSpace) (s : TableSpace) (between : TableArrays) (v : RedrawS
 
   abbrev leaves : Answer (Answer FlatDrawing) → DrawingArrays
   leaves a = afterwards a (λ drawing. afterwards drawing (λ d. drawingOver d out) out) out
-
-  -- Where the arrays between the steps, or redraw's working space, are too short, the call answers 13 and writes nothing.
-  pub sheet-short : sheetSpaceShort h || redrawSpaceShort v ≡ true → (sheetAnswer w s h v d o out ≡ unread 13 0) × (sheetAfterwards w s h v d o out ≡ out)
-  unfolding sheetAnswer sheetAfterwards sheetAccepts
-  sheet-short e =
-      let refused = short (readContradicts w (tableSpaceShort s) d) (sheetSpaceShort h) (redrawSpaceShort v) (andThen (readTable (linesOf d)) step) e in
-      (ap bothSteps refused, ap leaves refused) where
-        short : (r t u : Bool) (next : Answer (Answer FlatDrawing)) → t || u ≡ true → refuseIf (r || t || u) 13 next ≡ refuse 13 0
-        short true t u next f = refl
-        short false t u next f = rw f
 
   module _ (room : sheetSpaceShort h || redrawSpaceShort v ≡ false) where
     abbrev rooms : (sheetSpaceShort h ≡ false) × (redrawSpaceShort v ≡ false)

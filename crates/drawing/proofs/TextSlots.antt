@@ -12,6 +12,7 @@ use Rattle.text.specs.declared.Decoded.{Decoded}
 use Rattle.text.specs.declared.Decoded.the-variants.{Character, Refused}
 use Rattle.text.specs.Characters.{space, span}
 use Rattle.text.specs.Utf8.{character, charsStep, charsFrom, charIndices}
+use Rattle.text.specs.Lines.{noText}
 use Rattle.text.proofs.Utf8Laws.{character-ascii}
 use Rattle.text.proofs.SpanLaws.{single-span, single-space}
 use Rattle.grid.specs.Slots.{Grid, Slot, Glyph, Other, vertical, glyphOf, slotsFrom, gridOf, slotAt, glyphAt}
@@ -60,7 +61,7 @@ module _ {v : Canvas} (L : Lined v) (o : ℕ) {b : Box} (m : List·Memᴰ b (v .
 
   -- the box's line and its columns, what stands before it, and what follows it
   abbrev text : List ℕ
-  text = getD (b .lines) (y - b .frame .top - 1) []
+  text = getD (b .lines) (y - b .frame .top - 1) noText
 
   abbrev n : ℕ
   n = textColumns o b y

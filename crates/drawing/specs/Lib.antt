@@ -7,4 +7,5 @@ pub mod Places
 pub mod RedrawCall
 pub mod SheetCall
 pub mod RoundTripCall
+pub mod Listing
 pub mod Computing

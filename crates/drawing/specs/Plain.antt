@@ -10,6 +10,7 @@ use Rattle.seq.specs.Lists.{range, upTo, any, find, count, lastD, orDefault}
 use Rattle.text.specs.Characters.{space, plus, colon}
 use Rattle.text.specs.Utf8.{charIndices}
 use Rattle.text.specs.Columns.{columnsFrom}
+use Rattle.text.specs.Lines.{noText}
 use Rattle.grid.specs.Values.{Line, Rect, GridTableColumn, TableCell, Table}
 use Rattle.grid.specs.Slots.{dash, equals, pipe}
 use Rattle.grid.specs.Layout.{firstOf}
@@ -138,7 +139,7 @@ startsInside v y x =
 -- a cell's whole inner line: a space, the text, and spaces up to the right border. Marks stand in the text, each after what it joins
 unfoldable pub innerLine : ℕ → Box → ℕ → List ℕ
 innerLine origin b y =
-    let text = getD (b .lines) (y - b .frame .top - 1) [] in
+    let text = getD (b .lines) (y - b .frame .top - 1) noText in
     space ∷ text
     ++ replicate (b .frame .right - b .frame .left - 2 - columnsFrom (origin + b .frame .left + 2) (charIndices text)) space
 

@@ -19,7 +19,7 @@ use Rattle.text.specs.declared.Decoded.{Decoded}
 use Rattle.text.specs.declared.Decoded.the-variants.{Character, Refused}
 use Rattle.text.proofs.TrimLaws.{trim-prefix, trim-shorter}
 use Rattle.text.proofs.PartLaws.{low-character}
-use Rattle.grid.specs.Values.{Line}
+use Rattle.grid.specs.Values.{Line, noLine}
 use Rattle.grid.specs.Slots.{Slot, Plus, Dash, Pipe, Other, dash, pipe, vertical, glyphAt, glyphOf, slotsFrom, lineSlots, isSeparator, gridOf, slotAt, byteAt}
 use Rattle.grid.proofs.SlotLaws.{rowAt, row-at}
 
@@ -95,7 +95,7 @@ module _ (lines : List Line) (y x : ℕ) (low : y < length lines) (wide : x < le
   none = record { glyph = Other; byte = 0 }
 
   abbrev line : Line
-  line = getD lines y (record { text = []; column = 0 })
+  line = getD lines y noLine
 
   in-row : List·Memᴰ (slotAt (gridOf lines) y x) (rowAt lines y)
   unfolding slotAt
@@ -155,7 +155,7 @@ module _ (lines : List Line) (y x : ℕ) (low : y < length lines) (wide : suc x 
   unfolding slotAt lineSlots
   climb =
       let none : Slot = record { glyph = Other; byte = 0 } in
-      let line : Line = getD lines y (record { text = []; column = 0 }) in
+      let line : Line = getD lines y noLine in
       let row = row-at lines y low in
       let c = slots-climb (eqb y 0 || isSeparator lines y) (line .column) 0 0 (trimEnd (line .text)) in
       let here : after (slotAt (gridOf lines) y x) ≡ after (getD (rowAt lines y) x none) = ap (λ (r : List Slot). after (getD r x none)) row in

@@ -10,7 +10,7 @@ use Rattle.seq.specs.Lists.{range, sum, isEmpty}
 use Rattle.seq.proofs.Ranges.{length-range}
 use Rattle.seq.proofs.Positions.{getD-map}
 use Rattle.seq.proofs.Rising.{position, position-lt}
-use Rattle.grid.specs.Values.{Line, Rect, Row, Fragment}
+use Rattle.grid.specs.Values.{Line, Rect, Row, Fragment, noLine}
 use Rattle.grid.specs.Slots.{Grid}
 use Rattle.grid.specs.Layout.{rowLines, indexOf, Between, between, sectionAt, rowsRead, contentAt, innerLines, cellRead, layoutOf}
 use Rattle.grid.specs.Cut.{cut, cutFrom, topOf, cellFragments, beforeDropped, dropEmptyLast, tableCell}
@@ -56,10 +56,10 @@ dropped-bytes (l ∷ ls) = before l (dropEmptyLast ls) ∙ ap (λ (n : ℕ). len
 
 -- the cut of line y in a rectangle
 abbrev pub cutAt : List Line → Grid → Rect → ℕ → Fragment
-cutAt lines g r y = cut (getD lines y (record { text = []; column = 0 })) y 0 (contentAt g r y) (r .left)
+cutAt lines g r y = cut (getD lines y noLine) y 0 (contentAt g r y) (r .left)
 
 module _ (lines : List Line) (g : Grid) (rs : List Rect) (cover : Cover g rs) where
-  top-of : {r : Rect} → List·Memᴰ r rs → topOf (layoutOf lines g rs) (cellRead g rs r) ≡ r .top
+  pub top-of : {r : Rect} → List·Memᴰ r rs → topOf (layoutOf lines g rs) (cellRead g rs r) ≡ r .top
   unfolding layoutOf rowsRead cellRead indexOf
   top-of {r} m =
       let rows = rowLines g rs in

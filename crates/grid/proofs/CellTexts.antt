@@ -21,7 +21,7 @@ use Rattle.text.specs.Characters.{space, tab, tabColumns}
 use Rattle.text.specs.Utf8.{continues, wellFrom, wellFormed}
 use Rattle.text.specs.Trim.{trimEnd}
 use Rattle.text.proofs.PartLaws.{well-drop, well-take, well-rest, well-trimmed}
-use Rattle.grid.specs.Values.{Line, Rect, Fragment}
+use Rattle.grid.specs.Values.{Line, Rect, Fragment, noLine}
 use Rattle.grid.specs.Slots.{Grid, gridOf, byteAt}
 use Rattle.grid.specs.Layout.{contentAt, innerLines, innerCount}
 use Rattle.grid.specs.Cut.{part, afterFirst, cut}
@@ -73,7 +73,7 @@ module _ (lines : List Line) (rs : List Rect) (checks : Passed lines rs) where
   g = gridOf lines
 
   abbrev textAt : ℕ → List ℕ
-  textAt y = getD lines y (record { text = []; column = 0 }) .text
+  textAt y = getD lines y noLine .text
 
   cover : Cover g rs
   cover = read-cover checks
@@ -82,7 +82,7 @@ module _ (lines : List Line) (rs : List Rect) (checks : Passed lines rs) where
   row-full y h = row-filled g (checks .filled) y (omega (arith, rows-length lines))
 
   text-short : (y : ℕ) → y < length lines → length (textAt y) ≤ 512
-  text-short y h = read-limited checks .shortLines (getD-mem lines y (record { text = []; column = 0 }) h)
+  text-short y h = read-limited checks .shortLines (getD-mem lines y noLine h)
 
   -- ---- how many lines
   rect-lines : (r : Rect) → List·Memᴰ r rs → r .bottom - r .top - 1 ≤ rectWeight (λ y x. 1) r
@@ -125,7 +125,7 @@ module _ (lines : List Line) (rs : List Rect) (checks : Passed lines rs) where
       let b = cover .first r m .bordered in
       omega (
         arith,
-        cut-shorter (getD lines y (record { text = []; column = 0 })) y 0 (contentAt g r y) (r .left),
+        cut-shorter (getD lines y noLine) y 0 (contentAt g r y) (r .left),
         row-gaps y (r .left) (r .right) low (omega (arith, b .leftBeforeRight)) (b .rightInside),
       )
 
@@ -151,7 +151,7 @@ module _ (lines : List Line) (rs : List Rect) (checks : Passed lines rs) where
         arith,
         row-gaps y 0 last low (omega arith) (omega (arith, cover .wide)),
         slot-in-line lines y last low (omega (arith, row-full y low, cover .wide)),
-        getD-map (λ (line : Line). length (line .text)) lines y 0 (record { text = []; column = 0 }) low,
+        getD-map (λ (line : Line). length (line .text)) lines y 0 noLine low,
       )
 
   -- The cells of a drawing that is read have at most 32,768 bytes together.
@@ -187,7 +187,7 @@ module _ (lines : List Line) (rs : List Rect) (checks : Passed lines rs) where
     cut-short =
         omega (
           arith,
-          cut-shorter (getD lines y (record { text = []; column = 0 })) y 0 (contentAt g r y) (r .left),
+          cut-shorter (getD lines y noLine) y 0 (contentAt g r y) (r .left),
           slot-in-line lines y (r .right) low right-inside,
           text-short y low,
         )

@@ -10,17 +10,18 @@ use lib.ListN.{length, getD, take, replicate, length-take}
 use Rattle.seq.specs.Lists.{range}
 use Rattle.text.specs.Characters.{space}
 use Rattle.text.specs.Trim.{beforeTrimmed, trimEnd}
+use Rattle.text.specs.Lines.{noText}
 use Rattle.text.proofs.TrimLaws.{trim-shorter, trim-again, trim-spaces}
 use Rattle.grid.specs.Values.{TableCell}
 use Rattle.grid.specs.Cut.{afterFirst, beforeDropped, dropEmptyLast}
 use Rattle.grid.specs.Same.{drawnLines, normalCell}
 
 -- ---- lines without empty last ones
-pub dropped-at : (ls : List (List ℕ)) (i : ℕ) → getD (dropEmptyLast ls) i [] ≡ getD ls i []
+pub dropped-at : (ls : List (List ℕ)) (i : ℕ) → getD (dropEmptyLast ls) i noText ≡ getD ls i noText
 unfolding dropEmptyLast
 dropped-at [] i = refl
 dropped-at (x ∷ xs) i = go (dropEmptyLast xs) x i (dropped-at xs) where
-  go : (r : List (List ℕ)) (x : List ℕ) (i : ℕ) → ((j : ℕ) → getD r j [] ≡ getD xs j []) → getD (beforeDropped x r) i [] ≡ getD (x ∷ xs) i []
+  go : (r : List (List ℕ)) (x : List ℕ) (i : ℕ) → ((j : ℕ) → getD r j noText ≡ getD xs j noText) → getD (beforeDropped x r) i noText ≡ getD (x ∷ xs) i noText
   go [] [] zero h = refl
   go [] [] (suc i) h = h i
   go [] (b ∷ bs) zero h = refl
@@ -28,13 +29,13 @@ dropped-at (x ∷ xs) i = go (dropEmptyLast xs) x i (dropped-at xs) where
   go (y ∷ ys) x zero h = refl
   go (y ∷ ys) x (suc i) h = h i
 
-trimmed-at : (ls : List (List ℕ)) (i : ℕ) → getD (map trimEnd ls) i [] ≡ trimEnd (getD ls i [])
+trimmed-at : (ls : List (List ℕ)) (i : ℕ) → getD (map trimEnd ls) i noText ≡ trimEnd (getD ls i noText)
 unfolding trimEnd
 trimmed-at [] i = refl
 trimmed-at (l ∷ ls) zero = refl
 trimmed-at (l ∷ ls) (suc i) = trimmed-at ls i
 
-pub drawn-line-at : (ls : List (List ℕ)) (i : ℕ) → getD (drawnLines ls) i [] ≡ trimEnd (getD ls i [])
+pub drawn-line-at : (ls : List (List ℕ)) (i : ℕ) → getD (drawnLines ls) i noText ≡ trimEnd (getD ls i noText)
 unfolding drawnLines
 drawn-line-at ls i = dropped-at (map trimEnd ls) i ∙ trimmed-at ls i
 
@@ -67,7 +68,7 @@ dropped-none (suc n) a h e =
     let later : dropEmptyLast (map h (range (a + 1) n)) ≡ [] = dropped-none n (a + 1) h (λ i l. let w : a + 1 + i ≡ a + suc i = omega arith in rw w (e (suc i) (omega arith))) in
     rw (later, first)
 
-pub dropped-rows : (l : List (List ℕ)) (n a : ℕ) (h : ℕ → List ℕ) → ((i : ℕ) → i < n → h (a + i) ≡ getD l i []) → length l ≤ n
+pub dropped-rows : (l : List (List ℕ)) (n a : ℕ) (h : ℕ → List ℕ) → ((i : ℕ) → i < n → h (a + i) ≡ getD l i noText) → length l ≤ n
     → dropEmptyLast (map h (range a n)) ≡ dropEmptyLast l
 unfolding dropEmptyLast range
 dropped-rows [] n a h e u = dropped-none n a h e
@@ -79,8 +80,8 @@ dropped-rows (x ∷ l) (suc n) a h e u =
     rw (later, first)
 
 -- ---- drawn lines are drawn as they are
-pub drawn-trimmed : (ls : List (List ℕ)) (i : ℕ) → trimEnd (getD (drawnLines ls) i []) ≡ getD (drawnLines ls) i []
-drawn-trimmed ls i = rw (drawn-line-at ls i) (trim-again (getD ls i []))
+pub drawn-trimmed : (ls : List (List ℕ)) (i : ℕ) → trimEnd (getD (drawnLines ls) i noText) ≡ getD (drawnLines ls) i noText
+drawn-trimmed ls i = rw (drawn-line-at ls i) (trim-again (getD ls i noText))
 
 dropped-again : (ls : List (List ℕ)) → dropEmptyLast (dropEmptyLast ls) ≡ dropEmptyLast ls
 unfolding dropEmptyLast

@@ -19,7 +19,7 @@ use Rattle.text.specs.Characters.{plus, span}
 use Rattle.text.specs.Utf8.{CharIndex, charIndices}
 use Rattle.text.specs.Trim.{trimEnd}
 use Rattle.text.specs.Rule.{isRule}
-use Rattle.grid.specs.Values.{Line, Rect}
+use Rattle.grid.specs.Values.{Line, Rect, noLine}
 use Rattle.grid.specs.Slots.{Grid, Slot, Plus, Dash, Pipe, Other, dash, equals, pipe, trimmedAt, glyphOf, glyphAt, horizontal, slotsFrom, lineSlots, isSeparator, slotRows, gridOf, slotAt}
 use Rattle.grid.specs.Layout.{rowLines}
 use Rattle.grid.specs.Read.{wrongWidth, readRects}
@@ -79,9 +79,9 @@ separator-across : (lines : List Line) → wrongWidth (gridOf lines) ≡ none �
 unfolding gridOf slotAt lineSlots
 separator-across lines e {s} m x h =
     let inside = separator-inside lines m in
-    let line : Line = getD lines s (record { text = []; column = 0 }) in
+    let line : Line = getD lines s noLine in
     let rule : eqb s 0 || isSeparator lines s ≡ true = or-right (eqb s 0) (inside .1) in
-    let made = getD-made (λ r. lineSlots (eqb r 0 || isSeparator lines r) (getD lines r (record { text = []; column = 0 }))) (length lines) s [] (inside .0) in
+    let made = getD-made (λ r. lineSlots (eqb r 0 || isSeparator lines r) (getD lines r noLine)) (length lines) s [] (inside .0) in
     let long : s < length (slotRows lines) = simp (length-map, length-range) (inside .0) in
     let wide = row-filled (gridOf lines) e s long in
     in-rule (getD (slotRows lines) s []) (line .column) (charIndices (trimEnd (line .text))) (made ∙ rw rule) x (record { glyph = Other; byte = 0 }) (omega arith)

@@ -15,7 +15,7 @@ use Rattle.seq.proofs.Positions.{getD-mem, getD-made}
 use Rattle.seq.proofs.Searches.{firstAt-none}
 use Rattle.seq.proofs.Gathered.{first-at, first-nowhere}
 use Rattle.text.specs.Utf8.{wellFormed}
-use Rattle.grid.specs.Values.{Line}
+use Rattle.grid.specs.Values.{Line, noLine}
 use Rattle.grid.specs.Slots.{Slot, lineSlots, isSeparator, gridOf}
 use Rattle.grid.specs.Flat.{splitText, linesWith}
 use Rattle.grid.specs.Read.{outsideSet, wrongWidth}
@@ -39,16 +39,16 @@ line-at (n ∷ ns) columns text (suc y) d h =
     line-at ns (drop 1 columns) (drop n text) y d (omega arith) ∙ rw (drop-drop (sum (take y ns)) n text, next-column columns y)
 
 -- check 3 passed, each line is well formed
-pub line-well : (lines : List Line) → outsideSet lines ≡ none → (y : ℕ) → y < length lines → wellFormed (getD lines y (record { text = []; column = 0 }) .text) ≡ true
+pub line-well : (lines : List Line) → outsideSet lines ≡ none → (y : ℕ) → y < length lines → wellFormed (getD lines y noLine .text) ≡ true
 unfolding outsideSet
 line-well lines e y h =
-    not-false (wellFormed (getD lines y (record { text = []; column = 0 }) .text))
-    (firstAt-none (λ (line : Line). not (wellFormed (line .text))) 0 lines e (getD-mem lines y (record { text = []; column = 0 }) h))
+    not-false (wellFormed (getD lines y noLine .text))
+    (firstAt-none (λ (line : Line). not (wellFormed (line .text))) 0 lines e (getD-mem lines y noLine h))
 
 -- ---- the rows of a drawing's grid
 module _ (lines : List Line) where
   abbrev pub rowAt : ℕ → List Slot
-  rowAt y = lineSlots (eqb y 0 || isSeparator lines y) (getD lines y (record { text = []; column = 0 }))
+  rowAt y = lineSlots (eqb y 0 || isSeparator lines y) (getD lines y noLine)
 
   pub rows-length : length (gridOf lines .rows) ≡ length lines
   unfolding gridOf

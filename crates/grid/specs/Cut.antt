@@ -7,7 +7,7 @@ use lib.Dec.{eqb}
 use Rattle.seq.specs.Lists.{isEmpty}
 use Rattle.text.specs.Characters.{space, tab, tabColumns}
 use Rattle.text.specs.Trim.{trimEnd}
-use Rattle.grid.specs.Values.{Line, Range, Cell, Row, Layout, Fragment, TableCell, Table}
+use Rattle.grid.specs.Values.{Line, Range, Cell, Row, Layout, Fragment, TableCell, Table, noLine}
 
 -- "the part after the left border up to the right border"
 abbrev pub part : Range → List ℕ → List ℕ
@@ -31,7 +31,7 @@ cut given line tableByte r left =
 unfoldable pub cutFrom : List Line → ℕ → ℕ → List Range → List Fragment
 cutFrom lines left y [] = []
 cutFrom lines left y (r ∷ rs) =
-    cut (getD lines y (record { text = []; column = 0 })) y 0 r left ∷ cutFrom lines left (y + 1) rs
+    cut (getD lines y noLine) y 0 r left ∷ cutFrom lines left (y + 1) rs
 
 abbrev pub topOf : Layout → Cell → ℕ
 topOf l c = getD (map (λ (row : Row). row .top) (l .rows)) (c .row) 0

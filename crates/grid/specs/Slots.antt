@@ -9,7 +9,7 @@ use Rattle.text.specs.Characters.{plus, span}
 use Rattle.text.specs.Utf8.{CharIndex, charIndices}
 use Rattle.text.specs.Trim.{trimEnd}
 use Rattle.text.specs.Rule.{isRule}
-use Rattle.grid.specs.Values.{Line}
+use Rattle.grid.specs.Values.{Line, noLine}
 
 abbrev pub dash : ℕ
 dash = 0x2d
@@ -63,7 +63,7 @@ lineSlots rule line = slotsFrom rule (line .column) (charIndices (trimEnd (line 
 
 -- line r of a drawing, trimmed
 abbrev pub trimmedAt : List Line → ℕ → List ℕ
-trimmedAt lines r = trimEnd (getD lines r (record { text = []; column = 0 }) .text)
+trimmedAt lines r = trimEnd (getD lines r noLine .text)
 
 -- "each later line that is an `=` rule (a part separator)"
 unfoldable pub isSeparator : List Line → ℕ → Bool
@@ -75,7 +75,7 @@ separators lines = select (isSeparator lines) (upTo (length lines))
 -- the slots of each line; `Line 0, and each later line that is an = rule, is a rule line`
 abbrev pub slotRows : List Line → List (List Slot)
 slotRows lines =
-    map (λ r. lineSlots (eqb r 0 || isSeparator lines r) (getD lines r (record { text = []; column = 0 }))) (upTo (length lines))
+    map (λ r. lineSlots (eqb r 0 || isSeparator lines r) (getD lines r noLine)) (upTo (length lines))
 
 -- a drawing as a grid of slots; "Width is the trimmed length of line 0"
 pub record Grid : Type 0 where

@@ -1,6 +1,7 @@
 -- The values that document 01 speaks of. Names are the Rust's where it has them.
 use Prim.Native.Nat.{ℕ}
 use mathlib.Core.List.{List}
+use Rattle.text.specs.Lines.{noText}
 use Rattle.grid.specs.declared.TableAlignment.{TableAlignment}
 use Rattle.grid.specs.declared.GridTableSection.{GridTableSection}
 
@@ -8,6 +9,10 @@ use Rattle.grid.specs.declared.GridTableSection.{GridTableSection}
 pub record Line : Type 0 where
   pub text : List ℕ
   pub column : ℕ
+
+-- what stands for a line past the last one of a drawing
+abbrev pub noLine : Line
+noLine = record { text = noText; column = 0 }
 
 -- a rectangle of a drawing: its border lines and border columns
 pub record Rect : Type 0 where

@@ -15,7 +15,8 @@ use Rattle.grid.specs.declared.TableAlignment.the-variants.{None, Left, Right, 
 use Rattle.grid.specs.declared.GridTableSection.{GridTableSection}
 use Rattle.grid.specs.declared.GridTableSection.the-variants.{Head, Body, Foot}
 use Rattle.drawing.specs.GridRules.{isHead, sameSection}
-use Rattle.html.specs.Shares.{Share, shares, shareText}
+use Rattle.html.specs.declared.Share.{Share}
+use Rattle.html.specs.Shares.{shares, shareText}
 
 abbrev pub sectionTag : GridTableSection → List ℕ
 sectionTag Head = ascii "thead"

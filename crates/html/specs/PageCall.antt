@@ -6,16 +6,12 @@ use lib.ListN.{length, getD, take, drop}
 use lib.Dec.{eqb, ltb}
 use Rattle.seq.specs.Lists.{sum, all}
 use Rattle.grid.specs.Answer.{Answer, accept, refuseIf, andThen, afterwards, over}
-use Rattle.grid.specs.Limits.{maxLines, maxWidth, maxBytes}
+use Rattle.grid.specs.Limits.{maxBytes}
 use Rattle.grid.specs.Values.{TableCell, Table}
 use Rattle.grid.specs.Flat.{codeSection, columnsOfArray, everyNth, lengthIs, shorter}
 use Rattle.drawing.specs.GridRules.{keepsRules}
 use Rattle.drawing.specs.Redraw.{tableEmpty, shapeTooLarge}
 use Rattle.html.specs.Page.{page}
-
--- working space: which cell holds each square
-abbrev pub pageSpace : ℕ
-pageSpace = maxLines * maxWidth
 
 -- a table as lent for the page: the number of lines of each cell is in its place the length of its inner bytes
 pub record PageSizes : Type 0 where
@@ -68,14 +64,14 @@ unfoldable pub pageBytes : Bool → PageSizes → Table → Answer (List ℕ)
 pageBytes widths s t =
     refuseIf (tableEmpty t) 1 (refuseIf (pageTooLarge s t) 2 (refuseIf (not (keepsRules t)) 8 (accept (page widths t))))
 
-unfoldable pub pageAccepts : ℕ → Bool → PageSizes → PageArrays → List ℕ → Answer (List ℕ)
-pageAccepts space widths s t out =
-    refuseIf (pageContradicts s t || ltb space pageSpace) 13
+unfoldable pub pageAccepts : Bool → PageSizes → PageArrays → List ℕ → Answer (List ℕ)
+pageAccepts widths s t out =
+    refuseIf (pageContradicts s t) 13
     (andThen (pageBytes widths s (pageTable s t)) (λ bytes. refuseIf (shorter out bytes) 12 (accept bytes)))
 
 -- how many bytes the page has
-unfoldable pub pageAnswer : ℕ → Bool → PageSizes → PageArrays → List ℕ → Answer ℕ
-pageAnswer space widths s t out = andThen (pageAccepts space widths s t out) (λ bytes. accept (length bytes))
+unfoldable pub pageAnswer : Bool → PageSizes → PageArrays → List ℕ → Answer ℕ
+pageAnswer widths s t out = andThen (pageAccepts widths s t out) (λ bytes. accept (length bytes))
 
-unfoldable pub pageAfterwards : ℕ → Bool → PageSizes → PageArrays → List ℕ → List ℕ
-pageAfterwards space widths s t out = afterwards (pageAccepts space widths s t out) (λ bytes. over bytes out) out
+unfoldable pub pageAfterwards : Bool → PageSizes → PageArrays → List ℕ → List ℕ
+pageAfterwards widths s t out = afterwards (pageAccepts widths s t out) (λ bytes. over bytes out) out

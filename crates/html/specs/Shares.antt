@@ -8,10 +8,7 @@ use lib.Ieee.{Float, binary64, round}
 use Rattle.seq.specs.Lists.{sum}
 use Rattle.seq.specs.Decimal.{decimal}
 use Rattle.grid.specs.Values.{GridTableColumn}
-
-pub record Share : Type 0 where
-  pub hundredths : ℕ
-  pub percent : Float
+use Rattle.html.specs.declared.Share.{Share}
 
 -- a quotient rounded half up
 abbrev pub halfUp : ℕ → ℕ → ℕ

@@ -1,16 +1,17 @@
 -- Laws of what a loop over the positions of a list has gathered: a sum, what a test selects, the first position that passes one.
 use Prim.Native.Nat.{ℕ, zero, suc, _+_, _≤_, _<_}
 use mathlib.Core.Path.{_≡_, refl, sym, ap, _∙_}
-use mathlib.Core.Bool.{Bool, true, false, cond}
+use mathlib.Core.Bool.{Bool, true, false, _&&_, _||_, cond}
 use mathlib.Core.Option.{Option, none, some}
 use mathlib.Core.Logic.{⊎-elim}
 use mathlib.Core.List.{List, [], _∷_, _++_}
 use native.Mathlib.Omega.{arith}
-use native.Mathlib.Nat.{add-zero, eq-or-lt-of-le}
+use native.Mathlib.Nat.{add-zero, zero-add, eq-or-lt-of-le}
 use native.Mathlib.Numerals.{add-one}
-use lib.ListN.{length, take, getD}
-use Rattle.seq.specs.Lists.{range, upTo, sum, select, consIf, firstAt}
-use Rattle.seq.proofs.Tests.{true-not-false, le-or-lt}
+use lib.ListN.{length, take, getD, length-append}
+use Rattle.seq.specs.Lists.{range, upTo, sum, all, any, count, select, consIf, firstAt}
+use Rattle.seq.proofs.Tests.{true-not-false, and-true, le-or-lt}
+use Rattle.seq.proofs.Walks.{or-false, any-append, all-append}
 use Rattle.seq.proofs.Searches.{firstAt-some, firstAt-none}
 use Rattle.seq.proofs.Positions.{getD-mem}
 
@@ -57,6 +58,19 @@ select-step test n = ap (select test) (range-step 0 n) ∙ select-append test (u
   go : (t : Bool) → consIf t n [] ≡ cond t (n ∷ []) []
   go true = refl
   go false = refl
+
+pub count-append : {A : Type 0} (test : A → Bool) (k l : List A) → count test (k ++ l) ≡ count test k + count test l
+count-append test k l = ap length (select-append test k l) ∙ length-append (select test k) (select test l)
+
+-- a test of one number more
+module _ (test : ℕ → Bool) (n : ℕ) where
+  pub any-more : any test (upTo (n + 1)) ≡ any test (upTo n) || test n
+  unfolding any
+  any-more = ap (any test) (range-step 0 n) ∙ any-append test (upTo n) ((0 + n) ∷ []) ∙ rw (zero-add n, or-false)
+
+  pub all-more : all test (upTo (n + 1)) ≡ all test (upTo n) && test n
+  unfolding all
+  all-more = ap (all test) (range-step 0 n) ∙ all-append test (upTo n) ((0 + n) ∷ []) ∙ rw (zero-add n, and-true)
 
 -- ---- a search by position, from what it finds
 module _ {A : Type 0} (test : A → Bool) (l : List A) (d : A) where

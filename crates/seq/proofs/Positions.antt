@@ -14,6 +14,10 @@ getD-mem (a ∷ l) zero d h = List·Memᴰ·head refl
 getD-mem (a ∷ l) (suc i) d h = List·Memᴰ·tail (getD-mem l i d (omega arith))
 
 -- the position of an element
+pub mem-last : {A : Type 0} (l : List A) (a : A) → List·Memᴰ a (l ++ a ∷ [])
+mem-last [] a = List·Memᴰ·head refl
+mem-last (b ∷ l) a = List·Memᴰ·tail (mem-last l a)
+
 pub mem-getD : {A : Type 0} {l : List A} {a : A} (d : A) → List·Memᴰ a l → (i : ℕ) × (i < length l) × (getD l i d ≡ a)
 mem-getD d (List·Memᴰ·head {x} {xs} q) = (0, omega arith, sym q)
 mem-getD d (List·Memᴰ·tail {x} {xs} m) = let (i, u, e) = mem-getD d m in (suc i, omega arith, e)

@@ -13,6 +13,10 @@ take-replicate zero m a h = refl
 take-replicate (suc n) zero a h = absurd (omega arith)
 take-replicate (suc n) (suc m) a h = ap (λ l. a ∷ l) (take-replicate n m a (omega arith))
 
+-- a list is as long as what was taken from it
+pub prefix-long : {A : Type 0} (n : ℕ) (l taken : List A) → take n l ≡ taken → length taken ≡ n → n ≤ length l
+prefix-long n l taken e f = let g = ap length e in omega (arith, g, f, length-take n l)
+
 smallest-snoc : (l : List ℕ) (n : ℕ) → 0 < length l → smallest (l ++ n ∷ []) ≡ min (smallest l) n
 unfolding smallest
 smallest-snoc [] n h = absurd (omega arith)

@@ -13,6 +13,7 @@ use lib.ListN.{length, getD}
 use Rattle.seq.specs.Lists.{range, all, any, select, consIf, count, orNext, firstSome, firstAt, someIf, neighbours}
 use Rattle.seq.proofs.Tests.{true-not-false, and-left, and-right, and-intro, or-cases, or-left, or-right, refused, bit, bit-true, bit-false, bit-one}
 use Rattle.seq.proofs.Ranges.{mem-range, range-mem}
+use Rattle.seq.proofs.Positions.{getD-mem}
 
 module _ {A : Type 0} (test : A → Bool) where
   pub all-mem : (l : List A) → all test l ≡ true → {a : A} → List·Memᴰ a l → test a ≡ true
@@ -104,6 +105,16 @@ module _ {A : Type 0} (test : A → Bool) where
   count-one one (List·Memᴰ·tail {x} {xs} m) (List·Memᴰ·head r) e f =
       absurd (let g : test x ≡ true = rw r at f in omega (arith, count-cons x xs, bit-true g, count-mem m e))
   count-one one (List·Memᴰ·tail {x} {xs} m) (List·Memᴰ·tail n) e f = count-one (omega (arith, count-cons x xs, count-mem m e)) m n e f
+
+  -- and stand at the same position
+  pub count-one-at : (l : List A) (d : A) (i j : ℕ) → count test l ≡ 1 → i < length l → j < length l → test (getD l i d) ≡ true → test (getD l j d) ≡ true → i ≡ j
+  count-one-at [] d i j one hi hj e f = absurd (omega arith)
+  count-one-at (a ∷ l) d zero zero one hi hj e f = refl
+  count-one-at (a ∷ l) d zero (suc j) one hi hj e f = absurd (omega (arith, count-cons a l, bit-true e, count-mem (getD-mem l j d (omega arith)) f))
+  count-one-at (a ∷ l) d (suc i) zero one hi hj e f = absurd (omega (arith, count-cons a l, bit-true f, count-mem (getD-mem l i d (omega arith)) e))
+  count-one-at (a ∷ l) d (suc i) (suc j) one hi hj e f =
+      let later : count test l ≡ 1 = omega (arith, count-cons a l, count-mem (getD-mem l i d (omega arith)) e) in
+      ap suc (count-one-at l d i j later (omega arith) (omega arith) e f)
 
 -- tests that give the same on a list count the same
 pub count-agree : {A : Type 0} (test other : A → Bool) (l : List A) → ((a : A) → List·Memᴰ a l → test a ≡ other a) → count test l ≡ count other l

@@ -26,9 +26,24 @@ pub cond-either : {A : Type 0} (P : A → Type 0) (t : Bool) {a b : A} → P a �
 cond-either P true p q = p
 cond-either P false p q = q
 
+-- the one that it picks
+pub cond-true : {A : Type 0} (t : Bool) (a b : A) → t ≡ true → a ≡ cond t a b
+cond-true t a b e = rw e
+
+pub cond-false : {A : Type 0} (t : Bool) (a b : A) → t ≡ false → b ≡ cond t a b
+cond-false t a b e = rw e
+
 pub and-false : (t : Bool) → t && false ≡ false
 and-false true = refl
 and-false false = refl
+
+pub and-true : (t : Bool) → t && true ≡ t
+and-true true = refl
+and-true false = refl
+
+pub and-assoc : (s t u : Bool) → s && t && u ≡ s && (t && u)
+and-assoc true t u = refl
+and-assoc false t u = refl
 
 pub both-true : (t u : Bool) → t && u ≡ true → (t ≡ true) × (u ≡ true)
 both-true true u e = (refl, e)

@@ -1,7 +1,7 @@
 -- Laws of a walk along a list: one step of a sum, a search and a selection.
 use Prim.Native.Nat.{ℕ, zero, suc, _+_, _≤_, _<_}
 use mathlib.Core.Path.{_≡_, refl, sym}
-use mathlib.Core.Bool.{Bool, true, false, _||_}
+use mathlib.Core.Bool.{Bool, true, false, _&&_, _||_}
 use mathlib.Core.List.{List, [], _∷_, _++_, map, List·Memᴰ, List·Memᴰ·head, List·Memᴰ·tail}
 use native.Mathlib.Omega.{arith}
 use native.Mathlib.Numerals.{add-one}
@@ -9,7 +9,8 @@ use lib.Dec.{eqb}
 use lib.ListN.{length, take, drop, getD, drop-of-length-le}
 use borrow.Author.Tests.{eqb-true, eqb-false, eq-eqb, ne-eqb}
 use lib.Seq.{drop-nil}
-use Rattle.seq.specs.Lists.{sum, any, select}
+use Rattle.seq.specs.Lists.{sum, all, any, select}
+use Rattle.seq.proofs.Tests.{and-assoc}
 use Rattle.seq.proofs.ListsLaws.{drop-step}
 
 -- two tests of equal numbers that hold together
@@ -59,6 +60,11 @@ module _ {A : Type 0} (test : A → Bool) where
   unfolding any
   any-append [] t = refl
   any-append (a ∷ s) t = rw (any-append s t) (sym (or-assoc (test a) (any test s) (any test t)))
+
+  pub all-append : (s t : List A) → all test (s ++ t) ≡ all test s && all test t
+  unfolding all
+  all-append [] t = refl
+  all-append (a ∷ s) t = rw (all-append s t) (sym (and-assoc (test a) (all test s) (all test t)))
 
 pub select-agree : {A : Type 0} (test other : A → Bool) (l : List A) → ((a : A) → List·Memᴰ a l → test a ≡ other a) → select test l ≡ select other l
 unfolding select

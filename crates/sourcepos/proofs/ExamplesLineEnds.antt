@@ -6,7 +6,8 @@ use Prim.Native.Nat.{ℕ}
 use lib.ListN.{replicate}
 use Rattle.grid.specs.Answer.{accept, refuse}
 use Rattle.sourcepos.specs.Computing.{positions}
-use Rattle.sourcepos.specs.LineEnds.{CellLineEnd, findEol}
+use Rattle.sourcepos.specs.declared.CellLineEnd.{CellLineEnd}
+use Rattle.sourcepos.specs.LineEnds.{findEol}
 use Rattle.sourcepos.specs.LineEndCalls.{Register, addAnswer, addAfterwards, findAnswer, remapAnswer}
 
 abbrev at : ℕ → ℕ → ℕ → CellLineEnd

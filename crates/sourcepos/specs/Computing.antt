@@ -3,8 +3,8 @@ use Rattle.grid.specs.Computing.{reading}
 use Rattle.sourcepos.specs.Positions.{wholeLines, noLines, tablePosition, rowPosition, cellPosition}
 use Rattle.sourcepos.specs.PositionsCall.{placedContradicts, placedOf, numbersTooLarge, placedLayout, positionArrays, positionsAccept, positionsAnswer, positionsAfterwards, cellPositionAnswer}
 use Rattle.sourcepos.specs.LineEnds.{lastEnd, findEol, remap}
-use Rattle.sourcepos.specs.LineEndCalls.{registerContradicts, endsWith, endsOf, badEnd, endTooLarge, addAnswer, addAfterwards, findAnswer, remapAnswer}
+use Rattle.sourcepos.specs.LineEndCalls.{registerContradicts, endsOf, badEnd, endTooLarge, addAnswer, addAfterwards, findAnswer, remapAnswer}
 
 unfoldable pub positions : Unit {0}
-unfolding reading wholeLines noLines tablePosition rowPosition cellPosition placedContradicts placedOf numbersTooLarge placedLayout positionArrays positionsAccept positionsAnswer positionsAfterwards cellPositionAnswer lastEnd findEol remap registerContradicts endsWith endsOf badEnd endTooLarge addAnswer addAfterwards findAnswer remapAnswer
+unfolding reading wholeLines noLines tablePosition rowPosition cellPosition placedContradicts placedOf numbersTooLarge placedLayout positionArrays positionsAccept positionsAnswer positionsAfterwards cellPositionAnswer lastEnd findEol remap registerContradicts endsOf badEnd endTooLarge addAnswer addAfterwards findAnswer remapAnswer
 positions = tt

@@ -1,13 +1,15 @@
 -- The register calls: adding checks 13, 2, 14; finding and remapping check 13, 2.
 use Prim.Native.Nat.{ℕ, _+_, _-_}
 use mathlib.Core.Bool.{Bool, not, _&&_, _||_}
-use mathlib.Core.List.{List, [], _∷_}
+use mathlib.Core.List.{List, map}
 use mathlib.Core.Option.{Option}
-use lib.ListN.{length, getD, take, drop, set}
+use lib.ListN.{length, getD, set}
 use lib.Dec.{eqb, leb, ltb}
+use Rattle.seq.specs.Lists.{upTo}
 use Rattle.grid.specs.Answer.{Answer, accept, refuseIf, afterwards}
 use Rattle.grid.specs.Limits.{maxRegister}
-use Rattle.sourcepos.specs.LineEnds.{CellLineEnd, findEol, remap}
+use Rattle.sourcepos.specs.declared.CellLineEnd.{CellLineEnd}
+use Rattle.sourcepos.specs.LineEnds.{findEol, remap}
 
 -- 14: "the line-end register holds 1,024"
 abbrev pub registerRoom : ℕ
@@ -20,19 +22,22 @@ pub record Register : Type 0 where
   pub starts : List ℕ
   pub eols : List ℕ
 
+abbrev pub register : ℕ → (lines starts eols : List ℕ) → Register
+register count lines starts eols = record { count = count; lines = lines; starts = starts; eols = eols }
+
 -- 13: an array that is not the register's size, or a count past it
 unfoldable pub registerContradicts : Register → Bool
 registerContradicts g =
     not (eqb (length (g .lines)) registerRoom && eqb (length (g .starts)) registerRoom && eqb (length (g .eols)) registerRoom
     && leb (g .count) registerRoom)
 
-unfoldable pub endsWith : List ℕ → List ℕ → List ℕ → List CellLineEnd
-endsWith [] starts eols = []
-endsWith (l ∷ ls) starts eols = record { line = l; start = getD starts 0 0; eol = getD eols 0 0 } ∷ endsWith ls (drop 1 starts) (drop 1 eols)
+-- end i of a register
+abbrev pub endAt : Register → ℕ → CellLineEnd
+endAt g i = record { line = getD (g .lines) i 0; start = getD (g .starts) i 0; eol = getD (g .eols) i 0 }
 
 -- the ends that a register holds
 unfoldable pub endsOf : Register → List CellLineEnd
-endsOf g = endsWith (take (g .count) (g .lines)) (g .starts) (g .eols)
+endsOf g = map (endAt g) (upTo (g .count))
 
 -- 13: "line, column or start is 0 or its start exceeds its eol"
 unfoldable pub badEnd : CellLineEnd → Bool

@@ -6,11 +6,7 @@ use mathlib.Core.List.{List, [], _∷_}
 use mathlib.Core.Option.{Option, none, some}
 use lib.Dec.{eqb, leb, ltb}
 use Rattle.seq.specs.Lists.{select}
-
-pub record CellLineEnd : Type 0 where
-  pub line : ℕ
-  pub start : ℕ
-  pub eol : ℕ
+use Rattle.sourcepos.specs.declared.CellLineEnd.{CellLineEnd}
 
 -- "on that line, .. with start ≤ column ≤ eol"
 abbrev pub reaches : ℕ → ℕ → CellLineEnd → Bool

@@ -20,6 +20,9 @@ pub record FlatPlaced : Type 0 where
   pub numbers : List ℕ
   pub tableBytes : List ℕ
 
+abbrev pub placed : FlatDrawing → List ℕ → List ℕ → FlatPlaced
+placed drawing numbers tableBytes = record { drawing = drawing; numbers = numbers; tableBytes = tableBytes }
+
 unfoldable pub placedContradicts : LayoutSpace → ℕ → FlatPlaced → Bool
 placedContradicts w space p =
     readContradicts w (startsShort space) (p .drawing) || not (eqb (length (p .numbers)) (p .drawing .lines) && eqb (length (p .tableBytes)) (p .drawing .lines))
@@ -45,6 +48,9 @@ fourNumbers s = s .startLine ∷ s .startColumn ∷ s .endLine ∷ s .endColumn 
 pub record PositionArrays : Type 0 where
   pub rows : List ℕ
   pub cells : List ℕ
+
+abbrev pub positionsLent : List ℕ → List ℕ → PositionArrays
+positionsLent rows cells = record { rows = rows; cells = cells }
 
 unfoldable pub positionArrays : Placed → Layout → PositionArrays
 positionArrays p l =

@@ -1,11 +1,11 @@
 -- Laws of plain lines: all characters 20 to 7E.
 use Prim.Native.Nat.{ℕ, _+_, _≤_, _<_}
 use mathlib.Core.Path.{_≡_, refl, sym, ap, _∙_}
-use mathlib.Core.Bool.{Bool, true, false, _&&_}
+use mathlib.Core.Bool.{Bool, true, _&&_}
 use mathlib.Core.List.{List, [], _∷_}
 use native.Mathlib.Omega.{arith}
 use lib.ListN.{length, drop, getD, drop-of-length-le}
-use Rattle.seq.proofs.Tests.{both-true}
+use Rattle.seq.proofs.Tests.{both-true, and-true, and-assoc}
 use Rattle.seq.specs.Lists.{within}
 use Rattle.seq.proofs.ListsLaws.{within-low, within-high, drop-step}
 use Rattle.text.specs.declared.Decoded.the-variants.{Character}
@@ -15,19 +15,11 @@ use Rattle.text.proofs.CharactersLaws.{ascii-one-column, span-other}
 use Rattle.text.proofs.Utf8Laws.{character-ascii}
 
 -- ---- what the code's loop over a line says: so far all are
-and-assoc : (t u v : Bool) → t && (u && v) ≡ (t && u) && v
-and-assoc true u v = refl
-and-assoc false u v = refl
-
-and-true : (t : Bool) → t && true ≡ t
-and-true true = refl
-and-true false = refl
-
 pub plain-next : (s : List ℕ) (i : ℕ) (t u : Bool) → i < length s → u ≡ within 0x20 0x7e (getD s i 0) → plain s ≡ (t && plain (drop i s)) → plain s ≡ ((t && u) && plain (drop (i + 1) s))
 unfolding plain
 plain-next s i t u inside is so-far =
     so-far ∙ ap (λ (l : List ℕ). t && plain l) (drop-step s i inside) ∙ ap (λ (v : Bool). t && (v && plain (drop (i + 1) s))) (sym is)
-    ∙ and-assoc t u (plain (drop (i + 1) s))
+    ∙ sym (and-assoc t u (plain (drop (i + 1) s)))
 
 pub plain-ends : (s : List ℕ) (i : ℕ) (t : Bool) → length s ≤ i → plain s ≡ (t && plain (drop i s)) → t ≡ plain s
 unfolding plain

@@ -18,6 +18,7 @@ use Rattle.text.specs.declared.Decoded.{Decoded}
 use Rattle.text.specs.declared.Decoded.the-variants.{Character, Refused}
 use Rattle.text.specs.Characters.{inSet, widthOf}
 use Rattle.text.specs.Utf8.{continues, twoBytes, threeBytes, characterIf, fromTwo, fromThree, decoded, character, charsFrom, wellFrom, wellFormed}
+use Rattle.text.specs.Lines.{noText}
 
 pub character-when : (known : Bool) (v k : ℕ) → known ≡ true → Character v k ≡ characterIf known v k
 character-when known v k e = rw e
@@ -282,7 +283,7 @@ unfolding wellFrom
 well-to-the-end s at low high so-far = sym (so-far ∙ rw (drop-of-length-le s high))
 
 -- a line of lines that are well formed
-pub well-line : (ls : List (List ℕ)) → ((l : List ℕ) → List·Memᴰ l ls → wellFormed l ≡ true) → (i : ℕ) → wellFormed (getD ls i []) ≡ true
+pub well-line : (ls : List (List ℕ)) → ((l : List ℕ) → List·Memᴰ l ls → wellFormed l ≡ true) → (i : ℕ) → wellFormed (getD ls i noText) ≡ true
 unfolding wellFrom
 well-line [] h i = refl
 well-line (l ∷ ls) h zero = h l (List·Memᴰ·head refl)

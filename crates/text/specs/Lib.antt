@@ -1,3 +1,4 @@
+pub mod Lines
 pub mod Characters
 pub mod Utf8
 pub mod Columns

@@ -49,7 +49,7 @@ cutting lengths columns text glyphs offsets rects o t starts room =
 -- ---- cell k of a traced drawing
 module _ (lengths columns text glyphs offsets rects : List ℕ) (o : Outcome) (t : TracedSheet lengths columns text glyphs offsets rects o) (starts : List ℕ)
     (k : ℕ) (h : k < o .cells) where
-  cell-here : getD (layoutOf (linesFrom lengths columns text) (gridOf (linesFrom lengths columns text)) (rectsOf (o .cells) rects) .cells) k noCell
+  pub cell-here : getD (layoutOf (linesFrom lengths columns text) (gridOf (linesFrom lengths columns text)) (rectsOf (o .cells) rects) .cells) k noCell
       ≡ cellRead (gridOf (linesFrom lengths columns text)) (rectsOf (o .cells) rects) (rectIn rects k)
   unfolding layoutOf
   cell-here =

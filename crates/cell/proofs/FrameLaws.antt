@@ -7,7 +7,7 @@ use lib.ListN.{length, getD, take, drop, length-take}
 use Rattle.seq.specs.Lists.{sum}
 use Rattle.seq.proofs.FlatMaps.{map-same}
 use Rattle.seq.proofs.Ranges.{range-mem}
-use Rattle.grid.specs.Values.{Line, Rect, Fragment}
+use Rattle.grid.specs.Values.{Line, Rect, Fragment, noLine}
 use Rattle.grid.specs.Slots.{gridOf, byteAt}
 use Rattle.grid.specs.Layout.{innerLines, cellRead, layoutOf}
 use Rattle.grid.specs.Cut.{dropEmptyLast, tableCell}
@@ -47,9 +47,9 @@ module _ (lengths columns text glyphs offsets rects : List ℕ) (o : Outcome) (t
     right-inside : r .right < gridOf lines .width
     right-inside = all-covered lengths columns text glyphs offsets rects o t .first r m .bordered .rightInside
 
-    text-length : length (getD lines y (record { text = []; column = 0 }) .text) ≤ getD lengths y 0
+    text-length : length (getD lines y noLine .text) ≤ getD lengths y 0
     text-length =
-        rw (line-at lengths columns text y (record { text = []; column = 0 }) (omega (arith, line, count lengths columns text glyphs offsets rects o t)))
+        rw (line-at lengths columns text y noLine (omega (arith, line, count lengths columns text glyphs offsets rects o t)))
         (omega (arith, length-take (getD lengths y 0) (drop (sum (take y lengths)) text)))
 
     pub line-bordered : (starts : List ℕ) → Cuttable (source lengths columns text starts offsets) (r .left) (r .right) y

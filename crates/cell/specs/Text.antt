@@ -5,7 +5,7 @@ use mathlib.Core.List.{List, [], map, flatMap, List·Memᴰ}
 use lib.ListN.{length, getD, take}
 use Rattle.seq.specs.Lists.{sum}
 use Rattle.grid.specs.Limits.{maxBytes}
-use Rattle.grid.specs.Values.{Rect, Fragment}
+use Rattle.grid.specs.Values.{Rect, Fragment, noLine}
 use Rattle.grid.specs.Layout.{innerLines}
 use Rattle.grid.specs.Cut.{cut, dropEmptyLast}
 use Rattle.grid.specs.CutCall.{cutNumbers}
@@ -31,7 +31,7 @@ source lengths columns text starts offsets = record { lengths = lengths; columns
 -- what lies between two columns of line y, cut
 abbrev pub fragmentBetween : Source → ℕ → ℕ → ℕ → Fragment
 fragmentBetween s left right y =
-    cut (getD (linesFrom (s .lengths) (s .columns) (s .text)) y (record { text = []; column = 0 })) y 0
+    cut (getD (linesFrom (s .lengths) (s .columns) (s .text)) y noLine) y 0
     (record { start = codeAt (s .offsets) y left + 1; end = codeAt (s .offsets) y right }) left
 
 abbrev pub cutBetween : Source → ℕ → ℕ → ℕ → List ℕ

@@ -11,6 +11,7 @@ use Rattle.seq.proofs.FlatMaps.{length-flatMap}
 use Rattle.seq.proofs.Tests.{or-neither}
 use Rattle.seq.proofs.Ranges.{length-range}
 use Rattle.text.specs.Trim.{trimEnd}
+use Rattle.text.specs.Lines.{noText}
 use Rattle.grid.specs.Answer.{accept, refuse, over}
 use Rattle.grid.specs.Values.{Rect}
 use Rattle.grid.specs.Slots.{gridOf}
@@ -42,7 +43,7 @@ ranges-length offsets (r ∷ rs) =
     omega (arith, length-append (rangeEntries offsets r) (allRanges offsets rs), length-flatMap 2 (λ (y : ℕ). (codeAt offsets y (r .left) + 1) ∷ codeAt offsets y (r .right) ∷ []) (innerLines r) (λ y. refl), length-range (r .top + 1) (r .bottom - r .top - 1), ranges-length offsets rs)
 
 module _ (lengths columns text glyphs offsets rects : List ℕ) (o : Outcome) (t : TracedSheet lengths columns text glyphs offsets rects o) where
-  some-row : 1 ≤ length (rowLinesBelow (length lengths) (rectsOf (o .cells) rects))
+  pub some-row : 1 ≤ length (rowLinesBelow (length lengths) (rectsOf (o .cells) rects))
   unfolding rowLines gridOf
   some-row = rw (count lengths columns text glyphs offsets rects o t) at (rows-some (linesFrom lengths columns text) (rectsOf (o .cells) rects) glyphs offsets (accepted lengths columns text glyphs offsets rects o t) (held lengths columns text glyphs offsets rects o t))
 
@@ -117,7 +118,7 @@ module _ (lengths columns text glyphs offsets rects : List ℕ) (o : Outcome) (t
         ),
       )
 
-      pub written : {cols rows cells ranges line : List ℕ} → line ≡ trimEnd (getD (splitText lengths text) (p .head) [])
+      pub written : {cols rows cells ranges line : List ℕ} → line ≡ trimEnd (getD (splitText lengths text) (p .head) noText)
           → ((cols ≡ over (columnEntries glyphs offsets line (p .head) (linesHeld (s .lefts))) (out .columns))
           × (rows ≡ over (rowEntries p (linesHeld (s .tops))) (out .rows))
           × (cells ≡ over (cellEntries (linesHeld (s .tops)) (linesHeld (s .lefts)) (rectsOf (o .cells) rects)) (out .cells)) × (ranges ≡ over (allRanges offsets (rectsOf (o .cells) rects)) (out .ranges)))

@@ -6,7 +6,6 @@ use mathlib.Core.List.{List, [], _∷_}
 use native.Mathlib.Omega.{arith}
 use lib.Dec.{eqb, ltb}
 use lib.ListN.{length, getD, take, drop}
-use lib.Seq.{drop-drop}
 use borrow.Author.Tests.{eqb-true, not-false}
 use Rattle.seq.specs.Lists.{sum, firstAt, isEmpty}
 use Rattle.seq.proofs.Tests.{and-left, and-right}
@@ -14,6 +13,7 @@ use Rattle.seq.proofs.Gathered.{sum-step, sum-within}
 use Rattle.text.specs.Utf8.{wellFormed}
 use Rattle.text.specs.Trim.{trimEnd}
 use Rattle.text.specs.Rule.{isRule}
+use Rattle.text.specs.Lines.{noText}
 use Rattle.grid.specs.Answer.{accept, refuse, refuseIf}
 use Rattle.grid.specs.Values.{Line}
 use Rattle.grid.specs.Slots.{trimmedAt}
@@ -25,14 +25,9 @@ use Rattle.reading.specs.Checks.{placeOf}
 use Rattle.reading.specs.declared.checks.Place.{Place}
 use Rattle.reading.specs.declared.checks.Place.the-variants.{At, Nowhere}
 use Rattle.grid.specs.LayoutCall.{drawing}
+use Rattle.grid.proofs.FlatLaws.{split-at}
 
 -- ---- a line of a text back to back
-text-at : (lengths text : List ℕ) (y : ℕ) → y < length lengths → getD (splitText lengths text) y [] ≡ take (getD lengths y 0) (drop (sum (take y lengths)) text)
-unfolding splitText sum
-text-at [] text y h = absurd (omega arith)
-text-at (n ∷ ns) text zero h = refl
-text-at (n ∷ ns) text (suc y) h = text-at ns (drop n text) y (omega arith) ∙ rw (drop-drop (sum (take y ns)) n text)
-
 module _ (lengths text : List ℕ) (at i : ℕ) (passed : at ≡ sum (take i lengths)) where
   pub line-passed : (y : ℕ) → i < y → y < length lengths → at + getD lengths i 0 ≡ sum (take (i + 1) lengths)
   line-passed y low h = omega (arith, sum-step lengths i (omega arith))
@@ -41,12 +36,12 @@ module _ (lengths text : List ℕ) (at i : ℕ) (passed : at ≡ sum (take i len
     pub line-end : sum lengths ≡ length text → at + getD lengths y 0 ≤ length text
     line-end e = let same : i ≡ y = omega arith in let before : at ≡ sum (take y lengths) = rw same at passed in omega (arith, sum-within lengths y)
 
-    pub line-trimmed : (r : List ℕ) → y < length lengths → r ≡ trimEnd (take (at + getD lengths y 0 - at) (drop at text)) → r ≡ trimEnd (getD (splitText lengths text) y [])
+    pub line-trimmed : (r : List ℕ) → y < length lengths → r ≡ trimEnd (take (at + getD lengths y 0 - at) (drop at text)) → r ≡ trimEnd (getD (splitText lengths text) y noText)
     line-trimmed r h e =
         let same : i ≡ y = omega arith in
         let before : at ≡ sum (take y lengths) = rw same at passed in
         let k : at + getD lengths y 0 - at ≡ getD lengths y 0 = omega arith in
-        rw (text-at lengths text y h, ← before) (rw k at e)
+        rw (split-at lengths text y h, ← before) (rw k at e)
 
 -- ---- lines and their texts
 outside-lines : (texts : List (List ℕ)) (columns : List ℕ) (at : ℕ) → firstAt (λ (line : Line). not (wellFormed (line .text))) at (linesWith texts columns) ≡ firstAt (λ line. not (wellFormed line)) at texts
@@ -54,7 +49,7 @@ unfolding linesWith firstAt
 outside-lines [] columns at = refl
 outside-lines (t ∷ ts) columns at = rw (outside-lines ts (drop 1 columns) (at + 1))
 
-pub trimmed-text : (texts : List (List ℕ)) (columns : List ℕ) (y : ℕ) → trimmedAt (linesWith texts columns) y ≡ trimEnd (getD texts y [])
+pub trimmed-text : (texts : List (List ℕ)) (columns : List ℕ) (y : ℕ) → trimmedAt (linesWith texts columns) y ≡ trimEnd (getD texts y noText)
 unfolding linesWith
 trimmed-text [] columns y = refl
 trimmed-text (t ∷ ts) columns zero = refl
@@ -84,7 +79,7 @@ module _ (lines bytes : ℕ) (lengths columns text : List ℕ) (a : Bool) (told 
   contradicted t = rw (← told, t)
 
   module _ (sized : a ≡ false) where
-    sizes : (length lengths ≡ lines) × (length columns ≡ lines) × (length text ≡ bytes) × (sum lengths ≡ bytes)
+    pub sizes : (length lengths ≡ lines) × (length columns ≡ lines) × (length text ≡ bytes) × (sum lengths ≡ bytes)
     unfolding drawingContradicts
     sizes =
         let e = all-four (eqb (length lengths) lines) (eqb (length columns) lines) (eqb (length text) bytes) (eqb (sum lengths) bytes) (sym told ∙ sized) in
@@ -118,7 +113,7 @@ module _ (lines bytes : ℕ) (lengths columns text : List ℕ) (a : Bool) (told 
           unfolding widthAnswer linesOf
           outside y e = rw (← told, sized, lines-left lengths columns text some-length, ← large-told, small, outside-told, e)
 
-          module _ (inside : p ≡ Nowhere) (top : List ℕ) (top-told : top ≡ trimEnd (getD (splitText lengths text) 0 [])) (r : Bool) (rule-told : r ≡ isRule 0x2d top) where
+          module _ (inside : p ≡ Nowhere) (top : List ℕ) (top-told : top ≡ trimEnd (getD (splitText lengths text) 0 noText)) (r : Bool) (rule-told : r ≡ isRule 0x2d top) where
             trimmed-told : trimmedAt (linesFrom lengths columns text) 0 ≡ top
             trimmed-told = trimmed-text (splitText lengths text) columns 0 ∙ sym top-told
 

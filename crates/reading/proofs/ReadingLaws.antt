@@ -49,7 +49,7 @@ width-numbered d =
     (if-numbered (ltb maxWidth width) 2 (accept width) (λ z. omega arith) (λ n place e z. let clash : _≡_ {A = ℕ} 0 1 = cc in omega arith))))))
 
 module _ (lengths columns text glyphs offsets rects : List ℕ) (s : Outcome) where
-  refused-by : {a : Answer (List Rect)} {number place : ℕ} → a ≡ refuse number place → (number ≡ 0 → ⊥) → (s .number ≡ number) × (s .place ≡ place) × (s .cells ≡ 0)
+  pub refused-by : {a : Answer (List Rect)} {number place : ℕ} → a ≡ refuse number place → (number ≡ 0 → ⊥) → (s .number ≡ number) × (s .place ≡ place) × (s .cells ≡ 0)
       → Reading a lengths columns text glyphs offsets rects s
   refused-by e nonzero told =
       record {

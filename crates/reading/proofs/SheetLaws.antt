@@ -8,7 +8,7 @@ use lib.ListN.{length, getD, take, drop, length-take}
 use lib.Seq.{getD-drop}
 use Rattle.seq.specs.Lists.{sum}
 use Rattle.grid.specs.Answer.{accept}
-use Rattle.grid.specs.Values.{Rect}
+use Rattle.grid.specs.Values.{Rect, noLine}
 use Rattle.grid.specs.Slots.{gridOf, trimmedAt}
 use Rattle.grid.specs.Flat.{linesFrom}
 use Rattle.representation.specs.LayoutParts.{gridAnswer}
@@ -58,9 +58,9 @@ module _ (lengths columns text glyphs offsets rects : List ℕ) (o : Outcome) (t
   pub separated : separatorLines (o .separators) ≡ gridOf (linesFrom lengths columns text) .separators
   separated = t .through .separated (t .complete)
 
-  pub short-lines : (y : ℕ) → y < length (linesFrom lengths columns text) → length (getD (linesFrom lengths columns text) y (record { text = []; column = 0 }) .text) ≤ 512
+  pub short-lines : (y : ℕ) → y < length (linesFrom lengths columns text) → length (getD (linesFrom lengths columns text) y noLine .text) ≤ 512
   short-lines y h =
-      rw (line-at lengths columns text y (record { text = []; column = 0 }) (rw count at h)) (omega (arith, length-take (getD lengths y 0) (drop (sum (take y lengths)) text), t .sheet .shortLines y))
+      rw (line-at lengths columns text y noLine (rw count at h)) (omega (arith, length-take (getD lengths y 0) (drop (sum (take y lengths)) text), t .sheet .shortLines y))
 
   pub all-inside : (r : Rect) → List·Memᴰ r (rectsOf (o .cells) rects) → Inside 128 128 r
   all-inside r m =

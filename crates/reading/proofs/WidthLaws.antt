@@ -23,7 +23,7 @@ use Rattle.reading.proofs.limits.LimitLaws.{limits-apart}
 use Rattle.representation.specs.Sheet.{Sheet}
 use Rattle.reading.proofs.CheckedLaws.{agrees}
 
-none-over-limit : (limit : ℕ) (numbers : List ℕ) → anyOver limit numbers ≡ false → (i : ℕ) → getD numbers i 0 ≤ limit
+pub none-over-limit : (limit : ℕ) (numbers : List ℕ) → anyOver limit numbers ≡ false → (i : ℕ) → getD numbers i 0 ≤ limit
 unfolding anyOver any
 none-over-limit limit [] e i = omega arith
 none-over-limit limit (n ∷ ns) e zero = ltb-false limit n (or-neither (ltb limit n) (any (λ n. ltb limit n) ns) e .0)

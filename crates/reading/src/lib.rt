@@ -22,6 +22,7 @@ ghost use mathlib.Core.List.{[]};
 ghost use lib.ListN.{length, getD};
 ghost use Rattle.seq.specs.Lists.{sum};
 ghost use Rattle.text.specs.Trim.{trimEnd};
+ghost use Rattle.text.specs.Lines.{noText};
 ghost use Rattle.grid.specs.Slots.{gridOf, trimmedAt};
 ghost use Rattle.grid.specs.Flat.{splitText, linesFrom};
 ghost use Rattle.grid.specs.LayoutCall.{slotSpace, rectSpace, spaces, drawing};
@@ -49,7 +50,7 @@ pub struct Outcome {
 // Line y, trimmed: a part of the text.
 pub fn trimmed_line<'a>(lengths: &[u16], text: &'a [u8], y: usize) -> &'a [u8]
     requires { ⌜ (sum (now lengths) ≡ length (now text)) × (y < length (now lengths)) ⌝ }
-    ensures { λ r. ⌜ now r ≡ trimEnd (getD (splitText (now (lengths .entry)) (now (text .entry))) y []) ⌝ }
+    ensures { λ r. ⌜ now r ≡ trimEnd (getD (splitText (now (lengths .entry)) (now (text .entry))) y noText) ⌝ }
 {
     let mut at = 0;
     let mut i = 0;
@@ -154,7 +155,7 @@ fn trace_lines(
 }
 
 // A refusal, with nothing read.
-fn refusal(number: usize, place: usize) -> Outcome
+pub fn refusal(number: usize, place: usize) -> Outcome
     ensures { λ r. ⌜ (r .number ≡ number) × (r .place ≡ place) × (r .cells ≡ 0) ⌝ }
 {
     Outcome {

@@ -56,7 +56,7 @@ module _ (lines : List Line) (g : Grid) (rs : List Rect) (glyphs offsets : List 
   glyph-here : (y x : ℕ) → y < g .height → x < g .width → codeGlyph (codeAt glyphs y x) ≡ glyphAt g y x
   glyph-here y x yh xw = held-glyph g glyphs offsets (laid .held) y x (rw (laid .tall) yh) xw (laid .full y yh)
 
-  byte-here : (y x : ℕ) → y < g .height → x < g .width → codeAt offsets y x ≡ byteAt g y x
+  pub byte-here : (y x : ℕ) → y < g .height → x < g .width → codeAt offsets y x ≡ byteAt g y x
   byte-here y x yh xw = held-byte g glyphs offsets (laid .held) y x (rw (laid .tall) yh) xw (laid .full y yh)
 
   alignment-agrees : (x : ℕ) → x < g .width

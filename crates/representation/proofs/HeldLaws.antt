@@ -35,13 +35,16 @@ module _ (b : Bounds) (k : ℕ) (rising : Rising b) where
   pub length-pairs : length (between (linesHeld b)) ≡ b .count - 1
   length-pairs = length-between (linesHeld b) ∙ rw length-held
 
+  pub held-below : (size : ℕ) → ((x : ℕ) → List·Memᴰ x (linesHeld b) → x < size) → (i : ℕ) → i < b .count → getD (b .lines) i 0 < size
+  held-below size small i h = rw (getD-take (b .count) (b .lines) i 0 h) at (small (getD (linesHeld b) i 0) (getD-mem (linesHeld b) i 0 (omega (arith, length-held))))
+
   module _ (h : k + 1 < b .count) where
     pub pair-at : getD (between (linesHeld b)) k nobody ≡ record { from = getD (b .lines) k 0; to = getD (b .lines) (k + 1) 0 }
     pair-at =
         between-at (linesHeld b) k nobody (omega (arith, length-held))
         ∙ rw (getD-take (b .count) (b .lines) k 0 (omega arith), getD-take (b .count) (b .lines) (k + 1) 0 h)
 
-    rises-here : getD (b .lines) k 0 < getD (b .lines) (k + 1) 0
+    pub rises-here : getD (b .lines) k 0 < getD (b .lines) (k + 1) 0
     rises-here =
         rw (getD-take (b .count) (b .lines) k 0 (omega arith), getD-take (b .count) (b .lines) (k + 1) 0 h) at
         (rising-getD (linesHeld b) (rising .rising) k (k + 1) (omega arith) (omega (arith, length-held)))
@@ -53,14 +56,11 @@ module _ (b : Bounds) (k : ℕ) (rising : Rising b) where
     lines-apart = omega (arith, rises-here)
 
     module _ (small : (x : ℕ) → List·Memᴰ x (linesHeld b) → x < 128) where
-      small-at : (i : ℕ) → i < b .count → getD (b .lines) i 0 < 128
-      small-at i g = rw (getD-take (b .count) (b .lines) i 0 g) at (small (getD (linesHeld b) i 0) (getD-mem (linesHeld b) i 0 (omega (arith, length-held))))
-
       pub line-small : getD (b .lines) k 0 < 128
-      line-small = small-at k (omega arith)
+      line-small = held-below 128 small k (omega arith)
 
       pub width-fits : Fits w16 (getD (b .lines) (k + 1) 0 - getD (b .lines) k 0 - 1)
-      width-fits = record { fits = omega (arith, small-at (k + 1) h) }
+      width-fits = record { fits = omega (arith, held-below 128 small (k + 1) h) }
 
 -- ---- rectangles
 pub noRect : Rect

@@ -8,7 +8,7 @@ use Rattle.seq.specs.Lists.{select, upTo, orDefault}
 use Rattle.seq.proofs.Ranges.{range-mem}
 use Rattle.seq.proofs.Searches.{select-mem}
 use Rattle.grid.specs.Answer.{accept}
-use Rattle.grid.specs.Values.{Line, Rect}
+use Rattle.grid.specs.Values.{Line, Rect, noLine}
 use Rattle.grid.specs.Slots.{Grid, gridOf, byteAt, isSeparator}
 use Rattle.grid.specs.Layout.{firstOf, alignmentLine, columnLines, rowLines}
 use Rattle.grid.specs.Cover.{Cover}
@@ -78,7 +78,7 @@ module _ (lines : List Line) (rs : List Rect) (glyphs offsets : List ℕ) (e : g
       }
 
   -- a range starts within its line
-  pub small-bytes : ((y : ℕ) → y < length lines → length (getD lines y (record { text = []; column = 0 }) .text) ≤ 512)
+  pub small-bytes : ((y : ℕ) → y < length lines → length (getD lines y noLine .text) ≤ 512)
       → (r : Rect) → List·Memᴰ r rs → (y : ℕ) → r .top < y → y < r .bottom → codeAt offsets y (r .left) < 512
   small-bytes short r m y above below = rw (held-byte (gridOf lines) glyphs offsets h y (r .left) low left (filled y line)) byte where
     i : Inside (gridOf lines .height) (gridOf lines .width) r

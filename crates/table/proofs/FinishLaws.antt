@@ -2,12 +2,13 @@
 use Prim.Native.Nat.{ℕ, _*_, _-_, _≤_, _<_}
 use mathlib.Core.Path.{_≡_, _∙_}
 use mathlib.Core.Bool.{Bool, true, false}
-use mathlib.Core.List.{List, [], map, List·Memᴰ}
+use mathlib.Core.List.{List, map, List·Memᴰ}
 use native.Mathlib.Omega.{arith}
 use lib.ListN.{length, getD}
 use borrow.Author.Tests.{ltb-false}
 use Rattle.seq.proofs.Tests.{or-neither}
 use Rattle.text.specs.Trim.{trimEnd}
+use Rattle.text.specs.Lines.{noText}
 use Rattle.grid.specs.Answer.{accept, refuse, over}
 use Rattle.grid.specs.Values.{Rect}
 use Rattle.grid.specs.Slots.{gridOf}
@@ -143,7 +144,7 @@ module _ (lengths columns text glyphs offsets rects : List ℕ) (o : Outcome) (s
     pub head-low : p .head < 128
     head-low = omega (arith, head-in-lines, w .traced .sheet .fewLines)
 
-    pub all-written : {cols sections cells outLengths outText line : List ℕ} → line ≡ trimEnd (getD (splitText lengths text) (p .head) [])
+    pub all-written : {cols sections cells outLengths outText line : List ℕ} → line ≡ trimEnd (getD (splitText lengths text) (p .head) noText)
         → cols ≡ over (columnEntries glyphs offsets line (p .head) (linesHeld lefts)) (out .columns)
         → sections ≡ over (sectionEntries p (linesHeld tops)) (out .sections)
         → ((f : Rect → ℕ) → CountedBy f (rectsOf (o .cells) rects) counts → cells ≡ over (tableEntries f (linesHeld tops) (linesHeld lefts) (rectsOf (o .cells) rects)) (out .cells))

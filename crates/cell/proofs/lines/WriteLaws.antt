@@ -14,6 +14,7 @@ use Rattle.seq.proofs.Ranges.{length-range}
 use Rattle.seq.proofs.FlatMaps.{flatMap-ones}
 use Rattle.seq.proofs.Entries.{Written, length-more, first-shorter, none-written, all-written, write-more, write-sets}
 use Rattle.grid.specs.Flat.{joinText, linesFrom}
+use Rattle.grid.specs.Values.{noLine}
 use Rattle.representation.specs.Arrays.{codeAt}
 use Rattle.grid.proofs.CutLaws.{cut-shorter}
 use Rattle.cell.specs.Text.{Source, cutBetween, Ready, Cuttable}
@@ -49,7 +50,7 @@ module _ (s : Source) (top left right count i : ℕ) (h : i < count) where
     length-fits piece e =
         let y : ℕ = top + 1 + i in
         let shorter =
-        cut-shorter (getD (linesFrom (s .lengths) (s .columns) (s .text)) y (record { text = []; column = 0 })) y 0
+        cut-shorter (getD (linesFrom (s .lengths) (s .columns) (s .text)) y noLine) y 0
         (record { start = codeAt (s .offsets) y left + 1; end = codeAt (s .offsets) y right }) left in
         record { fits = rw e (omega (arith, shorter, line-cuttable .inside, ready .sheet .shortLines y)) }
 

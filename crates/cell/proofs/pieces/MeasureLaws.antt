@@ -12,6 +12,7 @@ use Rattle.seq.proofs.Gathered.{range-step}
 use Rattle.seq.proofs.Ranges.{length-range}
 use Rattle.grid.specs.Cut.{dropEmptyLast, beforeDropped}
 use Rattle.grid.specs.Flat.{linesFrom}
+use Rattle.grid.specs.Values.{noLine}
 use Rattle.representation.specs.Arrays.{codeAt}
 use Rattle.grid.proofs.CellLaws.{dropped-bytes}
 use Rattle.grid.proofs.CutLaws.{cut-shorter}
@@ -79,7 +80,7 @@ module _ (lengths columns text starts offsets : List ℕ) (top left bottom right
       short =
           rw told
           (let c = framed .borders y low high in
-          omega (arith, cut-shorter (getD (linesFrom lengths columns text) y (record { text = []; column = 0 })) y 0 (record { start = codeAt offsets y left + 1; end = codeAt offsets y right }) left, c .inside, ready .sheet .shortLines y))
+          omega (arith, cut-shorter (getD (linesFrom lengths columns text) y noLine) y 0 (record { start = codeAt offsets y left + 1; end = codeAt offsets y right }) left, c .inside, ready .sheet .shortLines y))
 
       next : above (y + 1) ≡ above y ++ t ∷ []
       next =

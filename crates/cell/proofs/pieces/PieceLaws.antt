@@ -12,7 +12,7 @@ use mir.Val.{Fits}
 use borrow.Author.Needs.{fits-under}
 use Rattle.seq.specs.Lists.{sum}
 use Rattle.seq.proofs.Gathered.{sum-step, sum-within}
-use Rattle.grid.specs.Values.{Line}
+use Rattle.grid.specs.Values.{Line, noLine}
 use Rattle.grid.specs.CutCall.{CutNumbers, cutNumbers}
 use Rattle.grid.specs.Flat.{linesFrom}
 use Rattle.representation.specs.Arrays.{codeAt}
@@ -56,10 +56,10 @@ module _ (lengths columns text starts offsets : List ℕ) (ready : Ready (source
   start-fits = fits-under w64 (codeAt offsets y left + 1) 514 (omega (arith, c .forward, c .inside, ready .sheet .shortLines y)) tt
 
   -- the line as the definition has it
-  part-line : lineOf part (record { 0 = getD columns y 0 }) ≡ getD (linesFrom lengths columns text) y (record { text = []; column = 0 })
+  part-line : lineOf part (record { 0 = getD columns y 0 }) ≡ getD (linesFrom lengths columns text) y noLine
   part-line =
       let taken : getD starts y 0 + getD lengths y 0 - getD starts y 0 ≡ getD lengths y 0 = omega arith in
-      rw (taken, begins) (sym (line-at lengths columns text y (record { text = []; column = 0 }) (c .line)))
+      rw (taken, begins) (sym (line-at lengths columns text y noLine (c .line)))
 
   module _ (p : Piece)
       (told : Pieced part (record { 0 = getD columns y 0 }) (record { 0 = codeAt offsets y left + 1 }) (record { 0 = codeAt offsets y right }) (record { 0 = left }) p) where
@@ -71,7 +71,7 @@ module _ (lengths columns text starts offsets : List ℕ) (ready : Ready (source
     unfolding cutNumbers
     piece-told =
         let f = fragmentBetween (source lengths columns text starts offsets) left right y in
-        let given = getD (linesFrom lengths columns text) y (record { text = []; column = 0 }) in
+        let given = getD (linesFrom lengths columns text) y noLine in
         let column : p .column .0 ≡ f .column = ap (λ (n : CutNumbers). n .column) (sym numbers) in
         let from : getD columns y 0 ≡ given .column = ap (λ (l : Line). l .column) part-line in
         record {
@@ -114,7 +114,7 @@ module _ (lengths columns text starts offsets : List ℕ) (ready : Ready (source
         ap (take n) (drop-take (p .start .0) more (drop at text) (omega (arith, told .forward, told .inside)) ∙ ap (take (more - p .start .0)) (drop-drop (p .start .0) at text))
         ∙ take-take n (more - p .start .0) (drop (at + p .start .0) text) (omega (arith, first, last, told .inside)) in
         let whole : take n (drop (p .start .0) part) ≡ f .text =
-        rw (first, ap (λ (l : Line). l .text) part-line) (sym (cut-part (getD (linesFrom lengths columns text) y (record { text = []; column = 0 })) y 0 (record { start = codeAt offsets y left + 1; end = codeAt offsets y right }) left)) in
+        rw (first, ap (λ (l : Line). l .text) part-line) (sym (cut-part (getD (linesFrom lengths columns text) y noLine) y 0 (record { start = codeAt offsets y left + 1; end = codeAt offsets y right }) left)) in
         rw long (sym taken ∙ whole)
 
 -- ---- where lines start

@@ -16,7 +16,7 @@ use Rattle.seq.proofs.Gathered.{sum-step, sum-within, select-step}
 use Rattle.text.specs.Trim.{trimEnd}
 use Rattle.text.specs.Rule.{isRule}
 use Rattle.grid.specs.Flat.{linesFrom}
-use Rattle.grid.specs.Values.{Line}
+use Rattle.grid.specs.Values.{Line, noLine}
 use Rattle.grid.specs.Slots.{Slot, lineSlots, isSeparator, trimmedAt, gridOf}
 use Rattle.representation.specs.Arrays.{glyphCode, glyphCodes, slotBytes, Roomy}
 use Rattle.grid.proofs.SlotLaws.{lines-length, line-at, line-well, rowAt, rows-length, row-at, wrong-row, no-wrong-row}
@@ -92,8 +92,8 @@ module _ (lengths columns text : List ℕ) (width : ℕ) (glyphs₀ offsets₀ g
     the-part : take (at + getD lengths y 0 - at) (drop at text) ≡ take (getD lengths y 0) (drop (sum (take y lengths)) text)
     the-part = let e : at + getD lengths y 0 - at ≡ getD lengths y 0 = omega arith in rw (e, so-far .bytes)
 
-    the-line : record { text = take (at + getD lengths y 0 - at) (drop at text); column = getD columns y 0 } ≡ getD (linesFrom lengths columns text) y (record { text = []; column = 0 })
-    the-line = rw the-part (sym (line-at lengths columns text y (record { text = []; column = 0 }) h))
+    the-line : record { text = take (at + getD lengths y 0 - at) (drop at text); column = getD columns y 0 } ≡ getD (linesFrom lengths columns text) y noLine
+    the-line = rw the-part (sym (line-at lengths columns text y noLine h))
 
     pub next-room : Roomy (length lengths) width glyphs₀ offsets₀
         → NextRoom (take (at + getD lengths y 0 - at) (drop at text)) (getD columns y 0) y width separators glyphs offsets

@@ -1,18 +1,18 @@
 -- What the cells of a canvas put at a slot: they never disagree (`bordered-horizontal`, `bordered-vertical`, `bordered-first`).
-use Prim.Native.Nat.{ℕ, zero, suc, _+_, _<_}
-use mathlib.Core.Path.{_≡_, refl, sym, ap, subst, _∙_}
+use Prim.Native.Nat.{ℕ, _+_, _<_}
+use mathlib.Core.Path.{_≡_, sym, ap, subst, _∙_}
 use mathlib.Core.Bool.{Bool, true, false}
 use mathlib.Core.Logic.{_⊎_, inl, inr}
-use mathlib.Core.List.{List, [], _∷_, map, List·Memᴰ}
+use mathlib.Core.List.{List, [], map, List·Memᴰ}
 use native.Mathlib.Omega.{arith}
 use lib.ListN.{length, getD, length-map}
 use lib.Seq.{ext-getD}
 use borrow.Author.Tests.{eq-eqb}
-use Rattle.seq.specs.Lists.{upTo, any, count}
-use Rattle.seq.proofs.Tests.{true-not-false, refused, and-left, and-right, bit-true}
+use Rattle.seq.specs.Lists.{upTo, any}
+use Rattle.seq.proofs.Tests.{true-not-false, refused, and-left, and-right}
 use Rattle.seq.proofs.Ranges.{length-range, mem-range, range-mem}
 use Rattle.seq.proofs.Positions.{getD-mem, getD-map, getD-made}
-use Rattle.seq.proofs.Searches.{any-mem, any-none, any-map, count-cons, count-mem}
+use Rattle.seq.proofs.Searches.{any-mem, any-none, any-map, count-one-at}
 use Rattle.grid.specs.Values.{Rect}
 use Rattle.grid.specs.Slots.{pipe}
 use Rattle.grid.specs.Cover.{holds}
@@ -32,19 +32,6 @@ use Rattle.canvas.proofs.PartLaws.{Part, onEnd, onSide, atFirst, away, 
 
 pub clash : {t : Bool} → t ≡ true → t ≡ false → ⊥
 clash p q = true-not-false (sym p ∙ q)
-
--- where exactly one passes, any two positions that pass are the same
-count-one-at : {A : Type 0} (test : A → Bool) (l : List A) (d : A) (i j : ℕ) → count test l ≡ 1 → i < length l → j < length l
-    → test (getD l i d) ≡ true → test (getD l j d) ≡ true → i ≡ j
-count-one-at test [] d i j one hi hj e f = absurd (omega arith)
-count-one-at test (a ∷ l) d zero zero one hi hj e f = refl
-count-one-at test (a ∷ l) d zero (suc j) one hi hj e f =
-    absurd (omega (arith, count-cons test a l, bit-true e, count-mem test (getD-mem l j d (omega arith)) f))
-count-one-at test (a ∷ l) d (suc i) zero one hi hj e f =
-    absurd (omega (arith, count-cons test a l, bit-true f, count-mem test (getD-mem l i d (omega arith)) e))
-count-one-at test (a ∷ l) d (suc i) (suc j) one hi hj e f =
-    let later : count test l ≡ 1 = omega (arith, count-cons test a l, count-mem test (getD-mem l i d (omega arith)) e) in
-    ap suc (count-one-at test l d i j later (omega arith) (omega arith) e f)
 
 rects-made : (n : ℕ) (rects : List ℕ) → rectsOf n rects ≡ map (rectIn rects) (upTo n)
 rects-made n rects =

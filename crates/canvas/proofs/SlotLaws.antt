@@ -1,20 +1,16 @@
 -- Laws of a canvas's slots: one write (`code-set`), two of the same byte (`put-twice`, `put-both`), one step more of several
--- (`any-more`, `painted-more`), and a range that ends one later (`inside-next`, `inside-same`).
+-- (`painted-more`), and a range that ends one later (`inside-next`, `inside-same`).
 use Prim.Native.Nat.{ℕ, _+_, _*_, _≤_, _<_}
 use mathlib.Core.Path.{_≡_, refl, sym, ap, _∙_}
 use mathlib.Core.Bool.{Bool, true, false, _&&_, _||_, cond}
-use mathlib.Core.List.{List, _∷_, [], List·Memᴰ}
+use mathlib.Core.List.{List, List·Memᴰ}
 use native.Mathlib.Omega.{arith}
 use native.Mathlib.Numerals.{add-one}
-use native.Mathlib.Nat.{zero-add}
 use lib.Dec.{eqb, ltb}
 use lib.ListN.{length, getD, set, length-set}
 use lib.Seq.{getD-set-same, getD-set-other}
 use borrow.Author.Tests.{ltb-true, ltb-false, eqb-true, eqb-false, lt-ltb, le-ltb, eq-eqb}
-use Rattle.seq.specs.Lists.{upTo, any}
 use Rattle.seq.proofs.Tests.{true-not-false, and-left, and-right, and-intro}
-use Rattle.seq.proofs.Gathered.{range-step}
-use Rattle.seq.proofs.Walks.{or-false, any-append}
 use Rattle.grid.specs.Values.{Rect}
 use Rattle.grid.specs.LayoutCall.{slotSpace}
 use Rattle.drawing.specs.Plain.{isInside}
@@ -52,10 +48,6 @@ put-both true s t w old = put-twice s t w old
 put-both false s t w old = refl
 
 -- ---- one step more
-pub any-more : (test : ℕ → Bool) (n : ℕ) → any test (upTo (n + 1)) ≡ any test (upTo n) || test n
-unfolding any
-any-more test n = ap (any test) (range-step 0 n) ∙ any-append test (upTo n) ((0 + n) ∷ []) ∙ rw (zero-add n, or-false)
-
 pub painted-more : (put : ℕ → ℕ → ℕ) (n old : ℕ) → painted put (n + 1) old ≡ put n (painted put n old)
 unfolding painted
 painted-more put n old = rw (add-one n)

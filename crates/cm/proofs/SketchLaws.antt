@@ -1,5 +1,5 @@
 -- A checked and measured table is the canvas that drawing asks for: `table-planned`, `table-sketched`, `table-texted`.
-use Prim.Native.Nat.{ℕ, suc, _+_, _-_, _*_, _≤_, _<_}
+use Prim.Native.Nat.{ℕ, _+_, _-_, _*_, _≤_, _<_}
 use mathlib.Core.Path.{_≡_, refl, sym, ap, subst, _∙_}
 use mathlib.Core.Bool.{Bool, true, false, cond}
 use mathlib.Core.List.{List, [], _∷_, _++_, map, List·Memᴰ}
@@ -8,7 +8,7 @@ use mathlib.Core.Option.{Option, none, some}
 use native.Mathlib.Omega.{arith}
 use native.Mathlib.Nat.{le-refl}
 use lib.Dec.{eqb}
-use lib.ListN.{length, getD, take, drop, length-map, length-take, List·getD-eq-default}
+use lib.ListN.{length, getD, take, length-map, length-take, List·getD-eq-default}
 use lib.Seq.{getD-take}
 use borrow.Author.Tests.{ne-eqb}
 use Rattle.seq.specs.Lists.{range, any, count, find, orDefault}
@@ -18,12 +18,14 @@ use Rattle.seq.proofs.FlatMaps.{map-same}
 use Rattle.seq.proofs.Positions.{getD-map, mem-getD}
 use Rattle.seq.proofs.Searches.{count-few}
 use Rattle.text.specs.Trim.{trimEnd}
+use Rattle.text.specs.Lines.{noText}
 use Rattle.text.proofs.TrimLaws.{trim-prefix}
 use Rattle.grid.specs.Values.{TableCell, Table}
 use Rattle.grid.specs.Flat.{codeSection, splitText}
 use Rattle.grid.specs.Same.{drawnLines}
 use Rattle.grid.proofs.DrawnLineLaws.{dropped-at}
 use Rattle.grid.proofs.CellLaws.{dropped-fewer}
+use Rattle.grid.proofs.FlatLaws.{length-split}
 use Rattle.representation.specs.TableIn.{tableIn, noCell, Tabled}
 use Rattle.representation.proofs.TableInLaws.{columns-length}
 use Rattle.drawing.specs.GridRules.{isHead, isFoot}
@@ -56,11 +58,6 @@ nextMark-few marks columns k = go (find (λ j. eqb (getD marks j 0) 1) (range k 
   go : (o : Option ℕ) → find (λ j. eqb (getD marks j 0) 1) (range k (columns - k)) ≡ o → orDefault columns o ≤ columns
   go none e = le-refl columns
   go (some j) e = let (f, same) = find-in (λ j. eqb (getD marks j 0) 1) k (columns - k) j e in omega (arith, f .low, f .high)
-
-split-length : (lengths text : List ℕ) → length (splitText lengths text) ≡ length lengths
-unfolding splitText
-split-length [] text = refl
-split-length (n ∷ ns) text = ap suc (split-length ns (drop n text))
 
 -- a rule of `=` under Head, above Foot and on the last line, or none
 module _ (y : ℕ) (low : y < 128) where
@@ -184,22 +181,22 @@ module _ {origin columns n : ℕ} {cols sections cells lengths text : List ℕ} 
     unfolding boxOf
     lines-are = ap (λ (b : Box). b .lines) (getD-map (cellBox t) (t .cells) k noBox noCell few)
 
-    drawn-at : (i : ℕ) → i < length (getD (t .cells) k noCell .lines) → getD (linesAt boxes k) i [] ≡ trimEnd (getD (getD (t .cells) k noCell .lines) i [])
+    drawn-at : (i : ℕ) → i < length (getD (t .cells) k noCell .lines) → getD (linesAt boxes k) i noText ≡ trimEnd (getD (getD (t .cells) k noCell .lines) i noText)
     unfolding drawnLines
     drawn-at i w =
-        ap (λ (l : List (List ℕ)). getD l i []) lines-are ∙ dropped-at (map trimEnd (getD (t .cells) k noCell .lines)) i
-        ∙ getD-map trimEnd (getD (t .cells) k noCell .lines) i [] [] w
+        ap (λ (l : List (List ℕ)). getD l i noText) lines-are ∙ dropped-at (map trimEnd (getD (t .cells) k noCell .lines)) i
+        ∙ getD-map trimEnd (getD (t .cells) k noCell .lines) i noText noText w
 
     drawn-fewer : length (linesAt boxes k) ≤ length (getD (t .cells) k noCell .lines)
     unfolding drawnLines
     drawn-fewer =
         omega (arith, ap length lines-are, dropped-fewer (map trimEnd (getD (t .cells) k noCell .lines)), length-map (getD (t .cells) k noCell .lines) trimEnd)
 
-    line-stands : (i : ℕ) → i < length (linesAt boxes k) → LineAt text starts ends (getD firsts k 0 + i) (getD (linesAt boxes k) i [])
+    line-stands : (i : ℕ) → i < length (linesAt boxes k) → LineAt text starts ends (getD firsts k 0 + i) (getD (linesAt boxes k) i noText)
     line-stands i w =
         let inside : i < length (getD (t .cells) k noCell .lines) = omega (arith, drawn-fewer) in
         let (there, same) = M .gathered .placed k i few inside in
-        let j : getD firsts k 0 + i < length lengths = omega (arith, split-length lengths text) in
+        let j : getD firsts k 0 + i < length lengths = omega (arith, length-split lengths text) in
         record {
           startRoom = omega (arith, M .trimmed .startRoom);
           endRoom = omega (arith, M .trimmed .endRoom);
@@ -208,15 +205,15 @@ module _ {origin columns n : ℕ} {cols sections cells lengths text : List ℕ} 
           bytes = M .trimmed .trimmed _ j ∙ ap trimEnd same ∙ sym (drawn-at i inside);
         }
 
-    drawn-short : (i : ℕ) → length (getD (linesAt boxes k) i []) ≤ 512
+    drawn-short : (i : ℕ) → length (getD (linesAt boxes k) i noText) ≤ 512
     drawn-short i = ⊎-elim past inside (le-or-lt (length (getD (t .cells) k noCell .lines)) i) where
-      past : length (getD (t .cells) k noCell .lines) ≤ i → length (getD (linesAt boxes k) i []) ≤ 512
-      past w = omega (arith, ap length (List·getD-eq-default (linesAt boxes k) [] {n = i} (omega (arith, drawn-fewer))))
+      past : length (getD (t .cells) k noCell .lines) ≤ i → length (getD (linesAt boxes k) i noText) ≤ 512
+      past w = omega (arith, ap length (List·getD-eq-default (linesAt boxes k) noText {n = i} (omega (arith, drawn-fewer))))
 
-      inside : i < length (getD (t .cells) k noCell .lines) → length (getD (linesAt boxes k) i []) ≤ 512
+      inside : i < length (getD (t .cells) k noCell .lines) → length (getD (linesAt boxes k) i noText) ≤ 512
       inside w =
           let (there, same) = M .gathered .placed k i few w in
-          omega (arith, ap length (drawn-at i w), trim-shorter (getD (getD (t .cells) k noCell .lines) i []), ap length same, facts .short (getD firsts k 0 + i))
+          omega (arith, ap length (drawn-at i w), trim-shorter (getD (getD (t .cells) k noCell .lines) i noText), ap length same, facts .short (getD firsts k 0 + i))
 
   pub table-texted : Texted (canvasOf t) text starts ends firsts highs
   unfolding canvasOf canvasAt
@@ -228,5 +225,5 @@ module _ {origin columns n : ℕ} {cols sections cells lengths text : List ℕ} 
           tall = λ k u. M .gathered .tall k (few k u) ∙ ap length (sym (lines-are k u));
           line = λ k i u. line-stands k u i;
         };
-        short = λ c m i. let (k, u, e) = mem-getD noBox m in subst (λ (b : Box). length (getD (b .lines) i []) ≤ 512) e (drawn-short k u i);
+        short = λ c m i. let (k, u, e) = mem-getD noBox m in subst (λ (b : Box). length (getD (b .lines) i noText) ≤ 512) e (drawn-short k u i);
       }

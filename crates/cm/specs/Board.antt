@@ -3,6 +3,7 @@ use Prim.Native.Nat.{ℕ, _+_, _-_, _*_, _≤_, _<_}
 use mathlib.Core.Path.{_≡_}
 use mathlib.Core.List.{List, [], map, List·Memᴰ}
 use lib.ListN.{length, getD, take, drop}
+use Rattle.text.specs.Lines.{noText}
 use Rattle.grid.specs.LayoutCall.{slotSpace}
 use Rattle.drawing.specs.Plain.{Box, Canvas, canvasWidth, canvasHeight}
 use Rattle.drawing.proofs.RuleRows.{Lined}
@@ -29,7 +30,7 @@ pub record Lettered (bs : List Box) (text starts ends firsts heights : List ℕ)
   pub firstRoom : length bs ≤ length firsts
   pub heightRoom : length bs ≤ length heights
   pub tall : (k : ℕ) → k < length bs → getD heights k 0 ≡ length (linesAt bs k)
-  pub line : (k i : ℕ) → k < length bs → i < length (linesAt bs k) → LineAt text starts ends (getD firsts k 0 + i) (getD (linesAt bs k) i [])
+  pub line : (k i : ℕ) → k < length bs → i < length (linesAt bs k) → LineAt text starts ends (getD firsts k 0 + i) (getD (linesAt bs k) i noText)
 
 -- the arrays: each cell's borders, the text, where its lines start and end, each cell's first line and number of lines
 pub record Board : Type 0 where
@@ -52,7 +53,7 @@ pub record Boxed (v : Canvas) (n : ℕ) (b : Board) : Type 0 where
   pub rectRoom : 4 * n ≤ length (b .rects)
   pub frames : map (λ (c : Box). c .frame) (v .boxes) ≡ rectsOf n (b .rects)
   pub lettered : Lettered (v .boxes) (b .text) (b .starts) (b .ends) (b .firsts) (b .heights)
-  pub short : (c : Box) → List·Memᴰ c (v .boxes) → (i : ℕ) → length (getD (c .lines) i []) ≤ 512
+  pub short : (c : Box) → List·Memᴰ c (v .boxes) → (i : ℕ) → length (getD (c .lines) i noText) ≤ 512
 
 -- cell k has line y inside
 pub record Inner (n : ℕ) (rects : List ℕ) (y k : ℕ) : Type 0 where

@@ -2,10 +2,11 @@
 use Prim.Native.Nat.{ℕ, _+_, _-_, _*_, _≤_, _<_}
 use mathlib.Core.Path.{_≡_}
 use mathlib.Core.Bool.{cond}
-use mathlib.Core.List.{List, [], map, List·Memᴰ}
+use mathlib.Core.List.{List, map, List·Memᴰ}
 use lib.Dec.{eqb}
 use lib.ListN.{length, getD}
 use Rattle.seq.specs.Lists.{any}
+use Rattle.text.specs.Lines.{noText}
 use Rattle.grid.specs.Values.{TableCell}
 use Rattle.grid.specs.Flat.{columnsOfArray, cellsOfArray}
 use Rattle.drawing.specs.Plain.{Box, Canvas, canvasWidth, canvasHeight, boxOf, cornerAt, alignmentRow, nextCorner}
@@ -76,4 +77,4 @@ pub record Sketched (v : Canvas) (p : Plan) : Type 0 where
 -- and its text
 pub record Texted (v : Canvas) (text starts ends firsts heights : List ℕ) : Type 0 where
   pub lettered : Lettered (v .boxes) text starts ends firsts heights
-  pub short : (c : Box) → List·Memᴰ c (v .boxes) → (i : ℕ) → length (getD (c .lines) i []) ≤ 512
+  pub short : (c : Box) → List·Memᴰ c (v .boxes) → (i : ℕ) → length (getD (c .lines) i noText) ≤ 512

@@ -15,6 +15,7 @@ ghost use lib.ListN.{length, getD, replicate};
 ghost use Rattle.text.specs.Characters.{space};
 ghost use Rattle.text.specs.Columns.{columnsFrom};
 ghost use Rattle.text.specs.Utf8.{charIndices, wellFormed};
+ghost use Rattle.text.specs.Lines.{noText};
 ghost use Rattle.drawing.specs.Plain.{Box, Canvas, canvasHeight, innerLine, drawnLine};
 ghost use Rattle.writer.specs.Writing.{Wrote};
 ghost use Rattle.cm.specs.Board.{board, noBox, linesAt, Lettered, Boxed, Inner, Ready};
@@ -32,7 +33,7 @@ pub fn cell_line<'a>(
     requires { ⌜ ((bs : List Box) × Lettered bs (now text) (now starts) (now ends) (now firsts) (now heights) × (k < length bs) × (i ≤ 128)) ⌝ }
     ensures { λ r.
         ⌜ ((bs : List Box) → Lettered bs (now (text .entry)) (now (starts .entry)) (now (ends .entry)) (now (firsts .entry)) (now (heights .entry))
-        → k < length bs → now r ≡ getD (linesAt bs k) i []) ⌝ }
+        → k < length bs → now r ≡ getD (linesAt bs k) i noText) ⌝ }
 {
     if entry(heights, k) <= i {
         return &text[0..0];

@@ -1,20 +1,21 @@
--- Laws for the call from a drawing to its redrawing: what it answers where the first test, the table call or the redraw call decides, and that
+-- Laws for the call from a drawing to its redrawing: what it answers where the table call or the redraw call decides, and that
 -- an accepted table call has filled as many entries of its arrays as it says.
 use Prim.Native.Nat.{ℕ, _*_, _-_, _≤_}
 use mathlib.Core.Path.{_≡_, refl, sym, ap, _∙_}
-use mathlib.Core.Bool.{Bool, true, false, _||_}
+use mathlib.Core.Bool.{Bool, false, _||_}
 use mathlib.Core.List.{List}
 use native.Mathlib.Omega.{arith}
-use lib.ListN.{length, length-map, length-take, take}
+use lib.ListN.{length, length-map, take}
+use Rattle.seq.proofs.Prefixes.{prefix-long}
 use Rattle.seq.proofs.FlatMaps.{length-flatMap}
 use Rattle.grid.specs.Answer.{Answer, accept, refuse}
 use Rattle.grid.specs.Flat.{FlatDrawing, TableSizes, TableArrays, columnNumbers, sectionCode, tableCellNumbers, tableLines, tableSizes, tableArrays}
 use Rattle.grid.specs.LayoutCall.{LayoutSpace}
-use Rattle.grid.specs.TableCall.{TableSpace, tableSpaceShort, readContradicts, tableAnswer, tableAfterwards}
+use Rattle.grid.specs.TableCall.{TableSpace, tableAnswer, tableAfterwards}
 use Rattle.grid.specs.Values.{Table}
 use Rattle.drawing.specs.RedrawCall.{RedrawSpace, redrawSpaceShort, DrawingSizes, DrawingArrays, tableLent, redrawAnswer, redrawAfterwards}
 use Rattle.drawing.specs.RoundTripCall.{tableTaken}
-use Rattle.drawing.specs.SheetCall.{SheetAnswer, unread, SheetSpace, sheetSpaces, sheetSpaceShort, redrawStep, sheetAccepts, sheetAnswer, sheetAfterwards}
+use Rattle.drawing.specs.SheetCall.{SheetAnswer, unread, SheetSpace, sheetSpaces, sheetSpaceShort, redrawStep, sheetAnswer, sheetAfterwards}
 use Rattle.drawing.proofs.CallLaws.{table-accepted}
 use Rattle.drawing.proofs.SheetCallLaws.{sheet-unread, sheet-redraws}
 use Rattle.cm.specs.Late.{answerOf}
@@ -61,9 +62,6 @@ taken-redrawn v o m b out e both =
       both .1 ∙ ap (λ (t : TableArrays). redrawAfterwards v o m t out) same,
     )
 
-prefix-long : {A : Type 0} (n : ℕ) (l taken : List A) → take n l ≡ taken → length taken ≡ n → n ≤ length l
-prefix-long n l taken e f = let g = ap length e in omega (arith, g, f, length-take n l)
-
 abbrev Filled : TableSizes → TableArrays → Type 0
 Filled m b =
     ((2 * m .columns ≤ length (b .columns)) × (m .rows ≤ length (b .sections)) × (5 * m .cells ≤ length (b .cells)))
@@ -96,17 +94,6 @@ table-filled w s d between {m} {b} e left =
     taken-filled (r .table) m b (r .sizes) (ap (tableTaken m) left ∙ r .taken)
 
 -- ---- what the call answers
-either-short : (r t u : Bool) → t || u ≡ true → r || t || u ≡ true
-either-short true t u e = refl
-either-short false t u e = e
-
-pub short-answers : (w : LayoutSpace) (s : TableSpace) (h : SheetSpace) (v : RedrawSpace) (d : FlatDrawing) (o : ℕ) (out : DrawingArrays) {short : Bool}
-    → short ≡ sheetSpaceShort h || redrawSpaceShort v → short ≡ true
-    → (unread 13 0 ≡ sheetAnswer w s h v d o out) × (out ≡ sheetAfterwards w s h v d o out)
-unfolding sheetAnswer sheetAfterwards sheetAccepts
-short-answers w s h v d o out test e =
-    rw (either-short (readContradicts w (tableSpaceShort s) d) (sheetSpaceShort h) (redrawSpaceShort v) (sym test ∙ e)) (refl, refl)
-
 module _ (w : LayoutSpace) (s : TableSpace) (between : TableArrays) (v : RedrawSpace) (d : FlatDrawing) (o : ℕ) (out : DrawingArrays) where
   abbrev h : SheetSpace
   h = sheetSpaces (between .columns) (between .sections) (between .cells) (between .lengths) (between .text)

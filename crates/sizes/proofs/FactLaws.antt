@@ -1,27 +1,28 @@
 -- What the code needs to know of a table in its arrays, as facts about the arrays: `tabled-facts`.
 use Prim.Native.Nat.{ℕ, zero, suc, _+_, _*_, _≤_, _<_}
-use mathlib.Core.Path.{_≡_, refl, sym, ap, ap₂, _∙_}
+use mathlib.Core.Path.{_≡_, refl, ap}
 use mathlib.Core.Bool.{Bool, true, not}
-use mathlib.Core.List.{List, [], _∷_, _++_, map, flatMap, List·Memᴰ, List·Memᴰ·head, List·Memᴰ·tail}
+use mathlib.Core.List.{List, [], _∷_, map, List·Memᴰ, List·Memᴰ·head, List·Memᴰ·tail}
 use native.Mathlib.Omega.{arith}
 use lib.Dec.{ltb}
-use lib.ListN.{length, getD, take, drop, length-map, length-take, length-drop, take-append-drop}
-use lib.Seq.{getD-drop, drop-drop}
+use lib.ListN.{length, getD, drop, length-map}
+use lib.Seq.{getD-drop}
 use borrow.Author.Tests.{ltb-true, not-false}
 use Rattle.seq.specs.Lists.{sum, all}
 use Rattle.seq.proofs.Tests.{both-true}
 use Rattle.seq.proofs.Positions.{getD-mem}
 use Rattle.seq.proofs.Searches.{firstAt-none}
 use Rattle.text.specs.Utf8.{wellFormed}
+use Rattle.text.specs.Lines.{noText}
 use Rattle.text.proofs.Utf8Laws.{well-line}
-use Rattle.grid.specs.Values.{TableCell, Table}
-use Rattle.grid.specs.Flat.{codeSection, cellsOfArray, everyNth, splitText, tableLines}
-use Rattle.grid.proofs.FlatLaws.{length-split}
+use Rattle.grid.specs.Values.{Table}
+use Rattle.grid.specs.Flat.{codeSection, everyNth, splitText, tableLines}
+use Rattle.grid.proofs.FlatLaws.{length-split, split-lengths}
 use Rattle.drawing.specs.Redraw.{tableOutsideSet}
 use Rattle.drawing.proofs.KeptLaws.{Lies, keepsRules-kept}
 use Rattle.drawing.proofs.LimitLaws.{shape-limits, lines-limits, tableTooLarge-parts}
 use Rattle.representation.specs.TableIn.{tableIn, countsIn, noCell, cellIn, Tabled}
-use Rattle.representation.proofs.TableInLaws.{columns-length, cells-length, cells-at}
+use Rattle.representation.proofs.TableInLaws.{columns-length, cells-length, cells-at, lines-whole}
 use Rattle.sizes.specs.Needs.{Spanned}
 
 pub record Facts (columns n : ℕ) (cols sections cells lengths text : List ℕ) : Type 0 where
@@ -37,26 +38,8 @@ pub record Facts (columns n : ℕ) (cols sections cells lengths text : List ℕ)
   pub fewLines : length lengths ≤ 16384
   pub bytesAgree : sum lengths ≡ length text
   pub fewBytes : length text ≤ 32768
-  pub short : (i : ℕ) → length (getD (splitText lengths text) i []) ≤ 512
-  pub well : (i : ℕ) → wellFormed (getD (splitText lengths text) i []) ≡ true
-
--- ---- the lines of all cells are those of the text
-counts-next : (n : ℕ) (cells : List ℕ) → sum (countsIn (suc n) cells) ≡ getD cells 4 0 + sum (countsIn n (drop 5 cells))
-unfolding everyNth sum
-counts-next n cells = ap₂ (λ (a b : ℕ). a + b) (getD-drop 4 cells 0 0) (ap (λ (l : List ℕ). sum (everyNth 5 n l)) (drop-drop 5 4 cells ∙ sym (drop-drop 4 5 cells)))
-
-cells-lines : (n : ℕ) (cells : List ℕ) (lines : List (List ℕ)) → length lines ≤ sum (countsIn n cells) → flatMap (λ (c : TableCell). c .lines) (cellsOfArray n cells lines) ≡ lines
-unfolding cellsOfArray everyNth sum flatMap
-cells-lines zero cells [] few = refl
-cells-lines zero cells (l ∷ lines) few = absurd (omega arith)
-cells-lines (suc n) cells lines few =
-    ap (λ (l : List (List ℕ)). take (getD cells 4 0) lines ++ l) (cells-lines n (drop 5 cells) (drop (getD cells 4 0) lines) (omega (arith, counts-next n cells, length-drop (getD cells 4 0) lines)))
-    ∙ take-append-drop (getD cells 4 0) lines
-
-split-lengths : (lengths text : List ℕ) → sum lengths ≤ length text → sum (map length (splitText lengths text)) ≡ sum lengths
-unfolding splitText sum
-split-lengths [] text h = refl
-split-lengths (n ∷ ns) text h = omega (arith, length-take n text, split-lengths ns (drop n text) (omega (arith, length-drop n text)))
+  pub short : (i : ℕ) → length (getD (splitText lengths text) i noText) ≤ 512
+  pub well : (i : ℕ) → wellFormed (getD (splitText lengths text) i noText) ≡ true
 
 -- ---- every nth
 nth-all : (test : ℕ → Bool) (step n : ℕ) (l : List ℕ) → all test (everyNth step n l) ≡ true → (k : ℕ) → k < n → test (getD l (step * k) 0) ≡ true
@@ -67,7 +50,7 @@ nth-all test step (suc n) l h (suc k) low =
     let e : step * suc k ≡ step + step * k = omega arith in
     rw (e, ← getD-drop step l (step * k) 0) (nth-all test step n (drop step l) (both-true (test (getD l 0 0)) (all test (everyNth step n (drop step l))) h .1) k (omega arith))
 
-short-line : (ls : List (List ℕ)) (i : ℕ) → ((l : List ℕ) → List·Memᴰ l ls → length l ≤ 512) → length (getD ls i []) ≤ 512
+short-line : (ls : List (List ℕ)) (i : ℕ) → ((l : List ℕ) → List·Memᴰ l ls → length l ≤ 512) → length (getD ls i noText) ≤ 512
 short-line [] i h = omega arith
 short-line (l ∷ ls) zero h = h l (List·Memᴰ·head refl)
 short-line (l ∷ ls) (suc i) h = short-line ls i (λ k m. h k (List·Memᴰ·tail m))
@@ -80,7 +63,7 @@ module _ {origin columns n : ℕ} {cols sections cells lengths text : List ℕ} 
   lines = splitText lengths text
 
   all-lines : tableLines table ≡ lines
-  all-lines = cells-lines n cells lines (omega (arith, length-split lengths text, t .linesAgree))
+  all-lines = lines-whole n cells lines (omega (arith, length-split lengths text, t .linesAgree))
 
   -- cell k lies in the grid
   lies : (k : ℕ) → k < n → Lies table (cellIn cells lines k)
@@ -115,7 +98,7 @@ module _ {origin columns n : ℕ} {cols sections cells lengths text : List ℕ} 
         linesAgree = t .linesAgree;
         fewLines = omega (arith, l .lines, ap length all-lines, length-split lengths text);
         bytesAgree = t .bytesAgree;
-        fewBytes = omega (arith, t .bytesAgree, l .bytes, ap (λ (k : List (List ℕ)). sum (map length k)) all-lines, split-lengths lengths text (omega (arith, t .bytesAgree)));
+        fewBytes = omega (arith, t .bytesAgree, l .bytes, ap (λ (k : List (List ℕ)). sum (map length k)) all-lines, ap sum (split-lengths lengths text (omega (arith, t .bytesAgree))));
         short = λ i. short-line lines i (λ k m. l .short k (rw all-lines m));
         well = well-line lines (λ k m. not-false (wellFormed k) (firstAt-none (λ line. not (wellFormed line)) 0 (tableLines table) (t .keeps .inSet) {a = k} (rw all-lines m)));
       }

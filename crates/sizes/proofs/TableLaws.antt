@@ -10,6 +10,7 @@ use Rattle.seq.specs.Lists.{range, sum, upTo}
 use Rattle.seq.proofs.Positions.{getD-map, getD-made}
 use Rattle.seq.proofs.Ranges.{length-range}
 use Rattle.text.specs.Trim.{trimEnd}
+use Rattle.text.specs.Lines.{noText}
 use Rattle.text.proofs.TrimLaws.{trim-shorter}
 use Rattle.text.proofs.PartLaws.{well-trimmed}
 use Rattle.grid.specs.Values.{TableCell, Table}
@@ -19,12 +20,11 @@ use Rattle.grid.specs.declared.GridTableSection.{GridTableSection}
 use Rattle.grid.proofs.FlatLaws.{length-split}
 use Rattle.drawing.specs.Sizes.{Need, widest, fit, startWidth, widthNeed, heightNeed, widths, heights, offsets}
 use Rattle.representation.specs.TableIn.{tableIn, countsIn, noCell, cellIn, Tabled}
-use Rattle.representation.proofs.TableInLaws.{cells-length, cells-at}
+use Rattle.representation.proofs.TableInLaws.{cells-length, cells-at, counts-within}
 use Rattle.sizes.specs.Lines.{lineAt, linesAt, Trimmed, Measurable}
 use Rattle.sizes.specs.Cells.{Gathered, cellLines, Counted}
 use Rattle.sizes.specs.Needs.{needAt, needsIn, Spanned}
 use Rattle.sizes.specs.Measured.{Measured}
-use Rattle.sizes.proofs.cells.CountLaws.{counts-within}
 use Rattle.sizes.proofs.FactLaws.{Facts, tabled-facts}
 
 module _ {columns n : ℕ} {cols sections cells lengths text : List ℕ} (f : Facts columns n cols sections cells lengths text) where
@@ -35,7 +35,7 @@ module _ {columns n : ℕ} {cols sections cells lengths text : List ℕ} (f : Fa
   table = tableIn columns n cols sections cells lengths text
 
   module _ {starts ends : List ℕ} (t : Trimmed lengths text starts ends) where
-    line-trimmed : (i : ℕ) → i < sum (countsIn n cells) → lineAt text starts ends i ≡ trimEnd (getD lines i [])
+    line-trimmed : (i : ℕ) → i < sum (countsIn n cells) → lineAt text starts ends i ≡ trimEnd (getD lines i noText)
     line-trimmed i h = t .trimmed i (omega (arith, f .linesAgree))
 
     trimmed-measurable : Measurable text starts ends (sum (countsIn n cells))
@@ -45,8 +45,8 @@ module _ {columns n : ℕ} {cols sections cells lengths text : List ℕ} (f : Fa
           endRoom = omega (arith, t .endRoom, f .linesAgree);
           forward = λ i h. t .forward i (omega (arith, f .linesAgree));
           inside = λ i h. t .inside i (omega (arith, f .linesAgree));
-          short = λ i h. omega (arith, ap length (line-trimmed i h), trim-shorter (getD lines i []), f .short i);
-          well = λ i h. rw (line-trimmed i h) (well-trimmed (getD lines i []) (f .well i));
+          short = λ i h. omega (arith, ap length (line-trimmed i h), trim-shorter (getD lines i noText), f .short i);
+          well = λ i h. rw (line-trimmed i h) (well-trimmed (getD lines i noText) (f .well i));
         }
 
     -- the lines of a cell, trimmed
@@ -66,7 +66,7 @@ module _ {columns n : ℕ} {cols sections cells lengths text : List ℕ} (f : Fa
       cell-lines = rw (cells-at n cells lines k noCell h, lines-trimmed (getD cells (5 * k + 4) 0) (sum (countsIn k cells)) within)
 
       cell-placed : (i : ℕ) → i < length (getD (table .cells) k noCell .lines)
-          → (sum (countsIn k cells) + i < length lines) × (getD lines (sum (countsIn k cells) + i) [] ≡ getD (getD (table .cells) k noCell .lines) i [])
+          → (sum (countsIn k cells) + i < length lines) × (getD lines (sum (countsIn k cells) + i) noText ≡ getD (getD (table .cells) k noCell .lines) i noText)
       cell-placed i low =
           let count = getD cells (5 * k + 4) 0 in
           let first = sum (countsIn k cells) in

@@ -1,9 +1,10 @@
 -- What is gathered of the cells of a table.
 use Prim.Native.Nat.{ℕ, _+_, _*_, _≤_, _<_}
 use mathlib.Core.Path.{_≡_}
-use mathlib.Core.List.{List, []}
+use mathlib.Core.List.{List}
 use lib.ListN.{length, getD}
 use Rattle.seq.specs.Lists.{sum}
+use Rattle.text.specs.Lines.{noText}
 use Rattle.grid.specs.Cut.{dropEmptyLast}
 use Rattle.grid.specs.Same.{drawnLines}
 use Rattle.grid.specs.Values.{TableCell}
@@ -17,7 +18,7 @@ pub record Gathered (ts : List TableCell) (lines : List (List ℕ)) (firsts heig
   pub heightRoom : length ts ≤ length heights
   pub wideRoom : length ts ≤ length wides
   pub placed : (k i : ℕ) → k < length ts → i < length (getD ts k noCell .lines)
-      → (getD firsts k 0 + i < length lines) × (getD lines (getD firsts k 0 + i) [] ≡ getD (getD ts k noCell .lines) i [])
+      → (getD firsts k 0 + i < length lines) × (getD lines (getD firsts k 0 + i) noText ≡ getD (getD ts k noCell .lines) i noText)
   pub tall : (k : ℕ) → k < length ts → getD heights k 0 ≡ length (drawnLines (getD ts k noCell .lines))
   pub wide : (k : ℕ) → k < length ts → getD wides k 0 ≡ widest (drawnLines (getD ts k noCell .lines)) + 1
 

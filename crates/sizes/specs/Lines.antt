@@ -2,11 +2,12 @@
 use Prim.Native.Nat.{ℕ, _-_, _≤_, _<_}
 use mathlib.Core.Path.{_≡_}
 use mathlib.Core.Bool.{true}
-use mathlib.Core.List.{List, [], map}
+use mathlib.Core.List.{List, map}
 use lib.ListN.{length, getD, take, drop}
 use Rattle.seq.specs.Lists.{range, sum}
 use Rattle.text.specs.Trim.{trimEnd}
 use Rattle.text.specs.Utf8.{charIndices, wellFormed}
+use Rattle.text.specs.Lines.{noText}
 use Rattle.grid.specs.Flat.{splitText}
 use Rattle.drawing.specs.Sizes.{measure}
 
@@ -27,7 +28,7 @@ pub record Trimmed (lengths text starts ends : List ℕ) : Type 0 where
   pub endRoom : length lengths ≤ length ends
   pub forward : (i : ℕ) → i < length lengths → getD starts i 0 ≤ getD ends i 0
   pub inside : (i : ℕ) → i < length lengths → getD ends i 0 ≤ length text
-  pub trimmed : (i : ℕ) → i < length lengths → lineAt text starts ends i ≡ trimEnd (getD (splitText lengths text) i [])
+  pub trimmed : (i : ℕ) → i < length lengths → lineAt text starts ends i ≡ trimEnd (getD (splitText lengths text) i noText)
 
 -- lines that can be measured: short ones of the set
 pub record Measurable (text starts ends : List ℕ) (count : ℕ) : Type 0 where

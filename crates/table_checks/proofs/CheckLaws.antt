@@ -21,13 +21,12 @@ use Rattle.reading.specs.Checks.{placeOf}
 use Rattle.reading.specs.declared.checks.Place.{Place}
 use Rattle.reading.specs.declared.checks.Place.the-variants.{At, Nowhere}
 use Rattle.representation.specs.TableIn.{tableIn, countsIn, Tabled}
-use Rattle.representation.proofs.TableInLaws.{columns-length, cells-length}
+use Rattle.representation.proofs.TableInLaws.{columns-length, cells-length, lines-whole}
 use Rattle.table_checks.specs.Agreement.{Agree}
 use Rattle.table_checks.specs.Places.{gridIn, Placed}
 use Rattle.table_checks.specs.Checks.{afterChecks}
 use Rattle.table_checks.specs.declared.Checked.{Checked}
 use Rattle.table_checks.specs.declared.Checked.the-variants.{Fine, Refused}
-use Rattle.table_checks.proofs.LineLaws.{lines-whole}
 use Rattle.table_checks.proofs.PlaceLaws.{rules-placed}
 
 -- ---- arrays without a contradiction
@@ -98,7 +97,7 @@ module _ (s : TableSizes) (t : TableArrays) {a : Bool} (told : a ≡ tableContra
       }
 
 -- ---- the returns
-not-fine : {number place : ℕ} → Refused number place ≡ Fine → ⊥
+pub not-fine : {number place : ℕ} → Refused number place ≡ Fine → ⊥
 not-fine e = true-not-false (ap refusing e) where
   refusing : Checked → Bool
   refusing Fine = false
@@ -154,7 +153,7 @@ module _ (origin : ℕ) (s : TableSizes) (t : TableArrays) where
           outside-told =
               let lines = splitText (t .lengths) (t .text) in
               let counted = agreed .countsAgree ∙ sym (agreed .linesAgree) ∙ sym (length-split (t .lengths) (t .text)) in
-              rw (lines-whole (s .cells) (t .cells) lines counted) (sym p-told)
+              rw (lines-whole (s .cells) (t .cells) lines (omega (arith, counted))) (sym p-told)
 
           pub outside : {y : ℕ} → p ≡ At y → {r : Checked} → r ≡ Refused 3 y → Told r
           unfolding checkTable

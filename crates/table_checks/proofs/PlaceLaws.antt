@@ -66,7 +66,7 @@ module _ (t u : Table) (wide : length (t .columns) ≡ length (u .columns)) (sam
   unfolding keepsRules sectionsRun
   rules-agree = rw (order-agrees, inside-agrees, cover-agrees, starts-agree, crossing-agrees, same)
 
-bare-cells : (n : ℕ) (cells : List ℕ) (lines more : List (List ℕ)) → map bare (cellsOfArray n cells lines) ≡ map bare (cellsOfArray n cells more)
+pub bare-cells : (n : ℕ) (cells : List ℕ) (lines more : List (List ℕ)) → map bare (cellsOfArray n cells lines) ≡ map bare (cellsOfArray n cells more)
 unfolding cellsOfArray
 bare-cells zero cells lines more = refl
 bare-cells (suc n) cells lines more =

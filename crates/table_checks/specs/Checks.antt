@@ -2,13 +2,12 @@
 use Prim.Native.Nat.{ℕ}
 use mathlib.Core.List.{List}
 use Rattle.grid.specs.Answer.{Answer, refuse}
-use Rattle.grid.specs.Values.{Line}
 use Rattle.grid.specs.Flat.{TableSizes, TableArrays}
 use Rattle.table_checks.specs.declared.Checked.{Checked}
 use Rattle.table_checks.specs.declared.Checked.the-variants.{Fine, Refused}
 
 -- what is answered where the checks give this, and would be answered without them
-abbrev pub afterChecks : Checked → Answer (List Line) → Answer (List Line)
+abbrev pub afterChecks : {A : Type 0} → Checked → Answer A → Answer A
 afterChecks Fine next = next
 afterChecks (Refused number place) next = refuse number place
 

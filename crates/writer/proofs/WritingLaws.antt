@@ -1,13 +1,14 @@
--- Laws of writing. `wrote-then` puts two parts together, `wrote-none` starts; `putDown-over` is a part that fits, from the buffer's start.
+-- Laws of writing. `wrote-then` puts two parts together, `wrote-more` one more to those of a list, `wrote-none` starts; `putDown-over` is a part that fits, from the buffer's start.
 use Prim.Native.Nat.{ℕ, zero, suc, _+_, _-_, _≤_, _<_, min}
 use mathlib.Core.Path.{_≡_, refl, sym, ap, ap₂, subst, _∙_}
 use mathlib.Core.Logic.{⊎-elim}
-use mathlib.Core.List.{List, [], _∷_, _++_}
+use mathlib.Core.List.{List, [], _∷_, _++_, append-nil, flatMap}
 use native.Mathlib.Numerals.{add-one}
 use native.Mathlib.Omega.{arith}
 use lib.ListN.{length, getD, take, drop, set, replicate, length-replicate, getD-replicate, length-append, take-append-drop}
 use lib.Seq.{take-suc, take-all, length-take-le}
 use Rattle.seq.proofs.Tests.{le-or-lt}
+use Rattle.seq.proofs.FlatMaps.{flatMap-append}
 use Rattle.grid.specs.Answer.{over}
 use Rattle.writer.specs.Writing.{putDown, Wrote}
 
@@ -72,6 +73,17 @@ module _ {d e f : List ℕ} {at mid r : ℕ} {s t : List ℕ} where
 
 pub wrote-as : {d e : List ℕ} {at r : ℕ} {s t : List ℕ} → Wrote d at s e r → s ≡ t → Wrote d at t e r
 wrote-as {d} {e} {at} {r} p h = subst (λ l. Wrote d at l e r) h p
+
+-- one part more of those that f gives of a list
+module _ {A : Type 0} (f : A → List ℕ) {d e g : List ℕ} {at mid r : ℕ} where
+  pub wrote-more : (l : List A) (a : A) → Wrote d at (flatMap f l) e mid → Wrote e mid (f a) g r → Wrote d at (flatMap f (l ++ a ∷ [])) g r
+  unfolding flatMap
+  wrote-more l a p q =
+      wrote-as (wrote-then p q) (sym (flatMap-append f l (a ∷ []) ∙ ap (λ (rest : List ℕ). flatMap f l ++ rest) (append-nil (f a))))
+
+  pub wrote-next : (l : List A) (k : ℕ) (a : A) → k < length l → Wrote d at (flatMap f (take k l)) e mid → Wrote e mid (f (getD l k a)) g r
+      → Wrote d at (flatMap f (take (k + 1) l)) g r
+  wrote-next l k a h p q = rw (add-one, take-suc l k a h) (wrote-more (take k l) (getD l k a) p q)
 
 -- ---- one byte
 pub put-written : (d : List ℕ) (at b : ℕ) → at < length d → Wrote d at (b ∷ []) (set d at b) (at + 1)

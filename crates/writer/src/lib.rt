@@ -1,5 +1,7 @@
 // Bytes put down one after the other: what fits into the space is written, and all of it is counted.
 // Run on no space, a writer counts.
+pub mod decimals;
+
 ghost use Prim.Native.Nat.{_+_, _-_, _≤_, min};
 ghost use mathlib.Core.Path.{_≡_};
 ghost use mathlib.Core.List.{[], _∷_};

@@ -7,12 +7,13 @@ use native.Mathlib.Omega.{arith}
 use lib.Dec.{eqb}
 use lib.ListN.{length, getD, set}
 use Rattle.seq.specs.Lists.{range, any}
+use Rattle.seq.proofs.Gathered.{any-more}
 use Rattle.text.specs.Characters.{plus}
 use Rattle.grid.specs.LayoutCall.{slotSpace}
 use Rattle.representation.specs.Arrays.{codeAt, rectIn}
 use Rattle.representation.specs.LayoutEntries.{Inside}
 use Rattle.canvas.specs.Painting.{Drawn, cornerOf, cornered, allCornered}
-use Rattle.canvas.proofs.SlotLaws.{code-set, set-room, put-twice, put-both, any-more}
+use Rattle.canvas.proofs.SlotLaws.{code-set, set-room, put-twice, put-both}
 
 -- ---- one cell
 -- the same for both lines

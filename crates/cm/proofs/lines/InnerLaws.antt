@@ -2,12 +2,13 @@
 use Prim.Native.Nat.{ℕ, _+_, _*_, _-_, _≤_, _<_}
 use mathlib.Core.Path.{_≡_, refl, sym, ap, _∙_}
 use mathlib.Core.Bool.{true}
-use mathlib.Core.List.{List, [], _∷_, _++_, List·Memᴰ}
+use mathlib.Core.List.{List, _∷_, _++_, List·Memᴰ}
 use native.Mathlib.Omega.{arith}
 use lib.ListN.{length, getD, replicate, length-append, length-replicate}
 use Rattle.text.specs.Characters.{space}
 use Rattle.text.specs.Columns.{columnsFrom}
 use Rattle.text.specs.Utf8.{charIndices, wellFormed}
+use Rattle.text.specs.Lines.{noText}
 use Rattle.grid.specs.Values.{Rect}
 use Rattle.drawing.specs.Plain.{Box, Canvas, canvasWidth, canvasHeight, innerLine}
 use Rattle.drawing.proofs.RowLaws.{text-fits}
@@ -32,7 +33,7 @@ module _ {n : ℕ} {b : Board} {origin y k at : ℕ} (G : Asked n b origin y k a
     cell-asked = (G .0 .boxes, G .1 .lettered, omega (arith, boxes-count (G .1), G .2 .cell), omega (arith, low, G .1 .low))
 
     module _ (line : List ℕ)
-        (told : (bs : List Box) → Lettered bs (b .text) (b .starts) (b .ends) (b .firsts) (b .heights) → k < length bs → line ≡ getD (linesAt bs k) (y - 1 - top) [])
+        (told : (bs : List Box) → Lettered bs (b .text) (b .starts) (b .ends) (b .firsts) (b .heights) → k < length bs → line ≡ getD (linesAt bs k) (y - 1 - top) noText)
         (left right : ℕ) (left-is : left ≡ getD (b .rects) (4 * k + 1) 0) (right-is : right ≡ getD (b .rects) (4 * k + 3) 0) where
       module _ (v : Canvas) (B : Boxed v n b) where
         abbrev box : Box
@@ -53,8 +54,8 @@ module _ {n : ℕ} {b : Board} {origin y k at : ℕ} (G : Asked n b origin y k a
         index : y - box .frame .top - 1 ≡ y - 1 - top
         index = omega (arith, ap (λ (r : Rect). r .top) frame)
 
-        line-is : getD (box .lines) (y - box .frame .top - 1) [] ≡ line
-        line-is = ap (λ (i : ℕ). getD (box .lines) i []) index ∙ sym (told (v .boxes) (B .lettered) (omega (arith, boxes-count B, G .2 .cell)))
+        line-is : getD (box .lines) (y - box .frame .top - 1) noText ≡ line
+        line-is = ap (λ (i : ℕ). getD (box .lines) i noText) index ∙ sym (told (v .boxes) (B .lettered) (omega (arith, boxes-count B, G .2 .cell)))
 
         inner-is : innerLine origin box y ≡ space ∷ line ++ replicate (right - left - 2 - columnsFrom (origin + left + 2) (charIndices line)) space
         unfolding innerLine

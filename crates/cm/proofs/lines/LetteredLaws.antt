@@ -1,9 +1,10 @@
 -- Where a box's lines stand in the text.
 use Prim.Native.Nat.{ℕ, _+_, _-_, _≤_, _<_}
 use mathlib.Core.Path.{_≡_, sym}
-use mathlib.Core.List.{List, []}
+use mathlib.Core.List.{List}
 use native.Mathlib.Omega.{arith}
 use lib.ListN.{length, getD, take, drop, List·getD-eq-default}
+use Rattle.text.specs.Lines.{noText}
 use Rattle.drawing.specs.Plain.{Box}
 use Rattle.cm.specs.Board.{LineAt, linesAt, Lettered}
 
@@ -15,11 +16,11 @@ module _ {bs : List Box} {text starts ends firsts heights : List ℕ} (L : Lette
   first-room = omega (arith, L .firstRoom)
 
   module _ (h : ℕ) (tall : h ≡ getD heights k 0) where
-    pub line-none : h ≤ i → [] ≡ getD (linesAt bs k) i []
-    line-none w = sym (List·getD-eq-default (linesAt bs k) [] (omega (arith, L .tall k u)))
+    pub line-none : h ≤ i → noText ≡ getD (linesAt bs k) i noText
+    line-none w = sym (List·getD-eq-default (linesAt bs k) noText (omega (arith, L .tall k u)))
 
     module _ (w : i < h) (f : ℕ) (first : f ≡ getD firsts k 0) where
-      there : LineAt text starts ends (getD firsts k 0 + i) (getD (linesAt bs k) i [])
+      there : LineAt text starts ends (getD firsts k 0 + i) (getD (linesAt bs k) i noText)
       there = L .line k i u (omega (arith, L .tall k u))
 
       pub start-room : f + i < length starts
@@ -35,5 +36,5 @@ module _ {bs : List Box} {text starts ends firsts heights : List ℕ} (L : Lette
         pub line-inside : to ≤ length text
         line-inside = rw (end, first) (there .inside)
 
-        pub line-bytes : take (to - from) (drop from text) ≡ getD (linesAt bs k) i []
+        pub line-bytes : take (to - from) (drop from text) ≡ getD (linesAt bs k) i noText
         line-bytes = rw (start, end, first) (there .bytes)

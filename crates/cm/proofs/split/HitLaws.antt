@@ -10,7 +10,7 @@ use lib.Dec.{eqb}
 use lib.ListN.{length, getD, drop, set, replicate, length-append, length-drop, length-replicate, length-set, drop-of-length-le, List·getD-eq-default, getD-replicate, List·getD-append}
 use lib.Seq.{drop-at, drop-drop, getD-drop, getD-set-same, getD-set-other}
 use borrow.Author.Tests.{eqb-true}
-use Rattle.seq.proofs.Tests.{le-or-lt, or-cases, refused}
+use Rattle.seq.proofs.Tests.{le-or-lt, or-cases, refused, cond-false}
 use Rattle.text.specs.declared.Decoded.the-variants.{Character}
 use Rattle.text.specs.Characters.{plus, span}
 use Rattle.text.specs.Columns.{columnsFrom}
@@ -30,12 +30,6 @@ vertical-is c = go (eqb c plus) (eqb c dash) (eqb c pipe) refl refl where
   go false true false e f = refl
   go false false true e f = refl
   go false false false e f = refl
-
-pub cond-more : (t : Bool) (a b : ℕ) → t ≡ true → a ≡ cond t a b
-cond-more t a b e = rw e
-
-pub cond-same : (t : Bool) (a b : ℕ) → t ≡ false → b ≡ cond t a b
-cond-same t a b e = rw e
 
 -- `|` and `+` take one column
 vertical-one : (column c : ℕ) → vertical (glyphOf false c) ≡ true → span column c ≡ 1
@@ -97,7 +91,7 @@ module _ {line : List ℕ} {first from i : ℕ} {before lines : List ℕ} {byte 
         room = s .room;
         left = s .lower;
         right = λ z u w. ⊎-elim
-            (λ (k : from + n ≤ z). s .upper z k ∙ cond-same _ (i + 1) (getD before z 0) (and-right-false (eqb (getD before z 0) i) (ap vertical (List·getD-eq-default (textGlyphs first line) Other (omega arith)))))
+            (λ (k : from + n ≤ z). s .upper z k ∙ cond-false _ (i + 1) (getD before z 0) (and-right-false (eqb (getD before z 0) i) (ap vertical (List·getD-eq-default (textGlyphs first line) Other (omega arith)))))
             (λ (k : z < from + n). s .done z u k ∙ ap (λ (t : Bool). cond t (i + 1) (getD before z 0)) (and-swap (showsAt first line (z - from)) (eqb (getD before z 0) i))) (le-or-lt (from + n) z);
       }
 
@@ -158,10 +152,10 @@ module _ {line : List ℕ} {first from i : ℕ} {before lines : List ℕ} {byte 
             past-it k =
                 let off : shown ≡ false = hidden (λ e. omega arith) in
                 getD-set-other lines (from + n) z more 0 (λ e. omega arith) ∙ s .upper z u
-                ∙ cond-same _ (i + 1) (getD before z 0) (ap (λ (t : Bool). t && eqb (getD before z 0) i) (shows-here z u w ∙ off))
+                ∙ cond-false _ (i + 1) (getD before z 0) (ap (λ (t : Bool). t && eqb (getD before z 0) i) (shows-here z u w ∙ off))
 
           none : (z : ℕ) → z ≡ from + n → count ≡ 0 → getD (set lines (from + n) more) z 0 ≡ getD before z 0
           none z e c =
               let off : shown ≡ false = hidden (λ f. omega arith) in
               ap (λ (k : ℕ). getD (set lines (from + n) more) k 0) e ∙ put
-              ∙ sym (cond-same _ (i + 1) (getD before (from + n) 0) (ap (λ (t : Bool). t && eqb (getD before (from + n) 0) i) off)) ∙ ap (λ (k : ℕ). getD before k 0) (sym e)
+              ∙ sym (cond-false _ (i + 1) (getD before (from + n) 0) (ap (λ (t : Bool). t && eqb (getD before (from + n) 0) i) off)) ∙ ap (λ (k : ℕ). getD before k 0) (sym e)

@@ -3,16 +3,17 @@ use Prim.Native.Nat.{ℕ, zero, suc, _+_, _-_, _≤_, _<_}
 use mathlib.Core.Path.{_≡_, refl, sym, ap, _∙_}
 use mathlib.Core.Bool.{Bool, true, false, _&&_, cond}
 use mathlib.Core.Logic.{⊎-elim}
-use mathlib.Core.List.{List, [], _∷_, _++_}
+use mathlib.Core.List.{List}
 use native.Mathlib.Omega.{arith}
 use lib.Dec.{eqb}
 use lib.ListN.{length, getD, replicate, List·getD-eq-default}
 use borrow.Author.Tests.{eq-eqb, ne-eqb}
 use Rattle.seq.specs.Lists.{range, upTo, all}
 use Rattle.seq.proofs.Tests.{le-or-lt}
-use Rattle.seq.proofs.Gathered.{range-step}
+use Rattle.seq.proofs.Gathered.{all-more}
 use Rattle.text.specs.Columns.{columnsFrom}
 use Rattle.text.specs.Utf8.{charIndices, wellFormed}
+use Rattle.text.specs.Lines.{noText}
 use Rattle.drawing.specs.Plain.{Box}
 use Rattle.cm.specs.Board.{linesAt, Lettered}
 use Rattle.cm.specs.Hits.{showsAt, Hit, Hittable, HitLines}
@@ -56,25 +57,8 @@ module _ (h i : ℕ) (few : h ≤ i) (shown : Bool) where
     go true = eq-eqb (i + 1) (i + 1) refl
     go false = ne-eqb h (i + 1) (λ e. omega arith)
 
-all-append : (test : ℕ → Bool) (s t : List ℕ) → all test (s ++ t) ≡ all test s && all test t
-unfolding all
-all-append test [] t = refl
-all-append test (a ∷ s) t = rw (all-append test s t) (go (test a)) where
-  go : (b : Bool) → b && (all test s && all test t) ≡ (b && all test s) && all test t
-  go true = refl
-  go false = refl
-
-all-step : (test : ℕ → Bool) (n : ℕ) → all test (upTo (n + 1)) ≡ all test (upTo n) && test n
-unfolding all
-all-step test n =
-    let e : 0 + n ≡ n = omega arith in
-    ap (all test) (range-step 0 n) ∙ all-append test (upTo n) ((0 + n) ∷ []) ∙ rw e (ap (λ (b : Bool). all test (upTo n) && b) (go (test n))) where
-      go : (b : Bool) → b && true ≡ b
-      go true = refl
-      go false = refl
-
 module _ {text starts ends firsts heights : List ℕ} {column from k i : ℕ} {hits : List ℕ} (s : Counting text starts ends firsts heights column from k i hits)
-    (line : List ℕ) (told : (bs : List Box) → Lettered bs text starts ends firsts heights → k < length bs → line ≡ getD (linesAt bs k) i []) where
+    (line : List ℕ) (told : (bs : List Box) → Lettered bs text starts ends firsts heights → k < length bs → line ≡ getD (linesAt bs k) i noText) where
   pub hits-next : (hits′ : List ℕ) → Hit column line from i hits hits′ → Counting text starts ends firsts heights column from k (i + 1) hits′
   hits-next hits′ h bs L u =
       let t = s bs L u in
@@ -85,8 +69,8 @@ module _ {text starts ends firsts heights : List ℕ} {column from k i : ℕ} {h
         right = λ z w x.
             ap (λ (n : ℕ). eqb n (i + 1)) (h .right z w x) ∙ counted-all (getD hits z 0) i (t .few z) (showsAt column line (z - from))
             ∙ ap (λ (b : Bool). b && showsAt column line (z - from)) (t .right z w x)
-            ∙ ap (λ (l : List ℕ). all (λ j. showsAt column (getD (linesAt bs k) j []) (z - from)) (upTo i) && showsAt column l (z - from)) (told bs L u)
-            ∙ sym (all-step (λ j. showsAt column (getD (linesAt bs k) j []) (z - from)) i);
+            ∙ ap (λ (l : List ℕ). all (λ j. showsAt column (getD (linesAt bs k) j noText) (z - from)) (upTo i) && showsAt column l (z - from)) (told bs L u)
+            ∙ sym (all-more (λ j. showsAt column (getD (linesAt bs k) j noText) (z - from)) i);
       } where
         few : HitLines column (linesAt bs k) from i hits → (z : ℕ) → getD hits′ z 0 ≤ i + 1
         few t z =

@@ -15,6 +15,7 @@ use Rattle.seq.proofs.Ranges.{range-mem}
 use Rattle.seq.proofs.Searches.{any-agree, none-any, any-none, all-range, range-all}
 use Rattle.text.specs.Characters.{plus}
 use Rattle.text.specs.Utf8.{charIndices, charsFrom}
+use Rattle.text.specs.Lines.{noText}
 use Rattle.grid.specs.Values.{Rect}
 use Rattle.grid.specs.Slots.{Grid, Slot, isPlus, vertical, glyphAt, gridOf, slotsFrom}
 use Rattle.grid.specs.Rectangle.{plusAt}
@@ -72,21 +73,21 @@ module _ {v : Canvas} {n width : ℕ} {b : Board} {canvas : List ℕ} (R : Ready
   line-at i = omega arith
 
   shown : (i x : ℕ) → r .top + 1 + i < r .bottom → r .left + 2 ≤ x → x < r .right
-      → vertical (glyphAt g (r .top + 1 + i) x) ≡ showsAt column (getD (box .lines) i []) (x - (r .left + 2))
+      → vertical (glyphAt g (r .top + 1 + i) x) ≡ showsAt column (getD (box .lines) i noText) (x - (r .left + 2))
   shown i x w p q =
       vertical-text (B .lined) origin m (r .top + 1 + i) (omega arith) w x p q
-      ∙ ap (λ (j : ℕ). showsAt column (getD (box .lines) j []) (x - (r .left + 2))) (line-at i)
+      ∙ ap (λ (j : ℕ). showsAt column (getD (box .lines) j noText) (x - (r .left + 2))) (line-at i)
 
   all-shown : (x : ℕ) → r .left + 2 ≤ x → x < r .right
-      → all (λ y. vertical (glyphAt g y x)) (innerLines r) ≡ all (λ i. showsAt column (getD (box .lines) i []) (x - (r .left + 2))) (upTo (r .bottom - r .top - 1))
+      → all (λ y. vertical (glyphAt g y x)) (innerLines r) ≡ all (λ i. showsAt column (getD (box .lines) i noText) (x - (r .left + 2))) (upTo (r .bottom - r .top - 1))
   all-shown x p q =
       bool-same _ _
-      (λ e. range-all (λ i. showsAt column (getD (box .lines) i []) (x - (r .left + 2))) 0 (r .bottom - r .top - 1) (λ i _ w.
+      (λ e. range-all (λ i. showsAt column (getD (box .lines) i noText) (x - (r .left + 2))) 0 (r .bottom - r .top - 1) (λ i _ w.
       sym (shown i x (omega arith) p q) ∙ all-range (λ y. vertical (glyphAt g y x)) (r .top + 1) (r .bottom - r .top - 1) e (r .top + 1 + i) (omega arith) (omega arith)))
       (λ e. range-all (λ y. vertical (glyphAt g y x)) (r .top + 1) (r .bottom - r .top - 1) (λ y l w.
       let i : r .top + 1 + (y - (r .top + 1)) ≡ y = omega arith in
       ap (λ (z : ℕ). vertical (glyphAt g z x)) (sym i) ∙ shown (y - (r .top + 1)) x (omega arith) p q
-      ∙ all-range (λ i. showsAt column (getD (box .lines) i []) (x - (r .left + 2))) 0 (r .bottom - r .top - 1) e (y - (r .top + 1)) (omega arith) (omega arith)))
+      ∙ all-range (λ i. showsAt column (getD (box .lines) i noText) (x - (r .left + 2))) 0 (r .bottom - r .top - 1) e (y - (r .top + 1)) (omega arith) (omega arith)))
 
   -- the first inner column is blank
   gap-blank : all (λ y. vertical (glyphAt g y (r .left + 1))) (innerLines r) ≡ false
@@ -139,8 +140,8 @@ module _ {v : Canvas} {n width : ℕ} {b : Board} {canvas : List ℕ} (R : Ready
             (λ (q : suc (r .left) < x).
             let c = length (box .lines) in
             true-not-false
-            (sym (all-range (λ i. showsAt column (getD (box .lines) i []) (x - (r .left + 2))) 0 (r .bottom - r .top - 1) (sym (all-shown x (omega arith) j) ∙ e) c (omega arith) (omega arith))
-            ∙ ap (λ (l : List ℕ). showsAt column l (x - (r .left + 2))) (List·getD-eq-default (box .lines) [] {n = c} (omega arith)) ∙ empty-hidden (x - (r .left + 2))))
+            (sym (all-range (λ i. showsAt column (getD (box .lines) i noText) (x - (r .left + 2))) 0 (r .bottom - r .top - 1) (sym (all-shown x (omega arith) j) ∙ e) c (omega arith) (omega arith))
+            ∙ ap (λ (l : List ℕ). showsAt column l (x - (r .left + 2))) (List·getD-eq-default (box .lines) noText {n = c} (omega arith)) ∙ empty-hidden (x - (r .left + 2))))
             (eq-or-lt-of-le i)
 
   -- ---- no `+` above that has one below
@@ -164,5 +165,5 @@ module _ {v : Canvas} {n width : ℕ} {b : Board} {canvas : List ℕ} (R : Ready
       record {
         well = λ i. B .lined .written .texts box m i .well;
         short = B .short box m;
-        inside = λ i. omega (arith, B .lined .written .texts box m i .fits, columns-measure column (charIndices (getD (box .lines) i [])), s .near, B .narrow);
+        inside = λ i. omega (arith, B .lined .written .texts box m i .fits, columns-measure column (charIndices (getD (box .lines) i noText)), s .near, B .narrow);
       }

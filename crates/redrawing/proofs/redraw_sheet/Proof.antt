@@ -2,7 +2,8 @@
 use mathlib.Core.Path.{sym, ap, _∙_}
 use borrow.Author.Needs.{needs}
 use Rattle.table.specs.Call.{answerOf}
-use Rattle.redrawing.proofs.SheetLaws.{short-answers, unread-answers, redrawn-answers, table-filled}
+use Rattle.drawing.proofs.SheetCallLaws.{sheet-short}
+use Rattle.redrawing.proofs.SheetLaws.{unread-answers, redrawn-answers, table-filled}
 use Rattle.redrawing.proofs.redraw_sheet.Statement.{statement}
 use Rattle.redrawing.proofs.redraw_sheet.Tie as tie
 
@@ -27,7 +28,7 @@ space-short-requires : tie.Need-space-short-requires
 space-short-requires c κs = search needs
 
 returns : tie.Need-returns
-returns c = short-answers _ _ _ _ _ _ _ (c .before .space-short .ensures) (c .if1 .taken)
+returns c = sheet-short _ _ _ _ _ _ _ (sym (c .before .space-short .ensures) ∙ c .if1 .taken)
 
 table-requires : tie.Need-table-requires
 table-requires c κs = search needs

@@ -1,11 +1,9 @@
 -- Laws of all cells: where the lines of each begin, how many are drawn, and the columns of the widest.
-use Prim.Native.Nat.{ℕ, zero, suc, _+_, _*_, _-_, _≤_, _<_}
+use Prim.Native.Nat.{ℕ, _+_, _*_, _≤_, _<_}
 use mathlib.Core.Path.{_≡_, refl, ap, _∙_}
 use mathlib.Core.List.{List}
-use native.Mathlib.Numerals.{add-one}
 use native.Mathlib.Omega.{arith}
-use lib.ListN.{length, getD, drop, set, length-set}
-use lib.Seq.{getD-drop}
+use lib.ListN.{length, getD, set, length-set}
 use mir.Syntax.{w16, w64}
 use mir.Val.{Fits}
 use borrow.Author.Needs.{fits-under}
@@ -14,31 +12,10 @@ use Rattle.grid.specs.Cut.{dropEmptyLast}
 use Rattle.grid.specs.Flat.{everyNth}
 use Rattle.drawing.specs.Sizes.{widest}
 use Rattle.representation.specs.TableIn.{countsIn}
+use Rattle.representation.proofs.TableInLaws.{counts-step, counts-within}
 use Rattle.sizes.specs.Lines.{linesAt, Measurable}
 use Rattle.sizes.specs.Cells.{cellLines, Counted}
 use Rattle.sizes.proofs.EachLaws.{each-set}
-
--- ---- the numbers of lines, one cell more
-sum-everyNth : (step k : ℕ) (l : List ℕ) → sum (everyNth step (suc k) l) ≡ sum (everyNth step k l) + getD l (step * k) 0
-unfolding everyNth sum
-sum-everyNth step zero l = let e : step * 0 ≡ 0 = omega arith in rw e (omega arith)
-sum-everyNth step (suc k) l =
-    let e : step * suc k ≡ step + step * k = omega arith in
-    rw (e, ← getD-drop step l (step * k) 0) (omega (arith, sum-everyNth step k (drop step l)))
-
-pub counts-step : (k : ℕ) (cells : List ℕ) → sum (countsIn (k + 1) cells) ≡ sum (countsIn k cells) + getD cells (5 * k + 4) 0
-counts-step k cells =
-    let e : 4 + 5 * k ≡ 5 * k + 4 = omega arith in
-    rw (add-one k) (sum-everyNth 5 k (drop 4 cells) ∙ ap (λ (n : ℕ). sum (countsIn k cells) + n) (getD-drop 4 cells (5 * k) 0 ∙ ap (λ (n : ℕ). getD cells n 0) e))
-
-counts-grow : (m k : ℕ) (cells : List ℕ) → sum (countsIn k cells) ≤ sum (countsIn (k + m) cells)
-counts-grow zero k cells = let e : k + 0 ≡ k = omega arith in rw e (omega arith)
-counts-grow (suc m) k cells = let e : k + suc m ≡ k + m + 1 = omega arith in rw e (omega (arith, counts-step (k + m) cells, counts-grow m k cells))
-
-pub counts-within : (n k : ℕ) (cells : List ℕ) → k < n → sum (countsIn k cells) + getD cells (5 * k + 4) 0 ≤ sum (countsIn n cells)
-counts-within n k cells low =
-    let e : k + 1 + (n - (k + 1)) ≡ n = omega arith in
-    omega (arith, counts-step k cells, rw e at (counts-grow (n - (k + 1)) (k + 1) cells))
 
 -- fewer lines can be measured too
 measurable-first : {text starts ends : List ℕ} {n m : ℕ} → m ≤ n → Measurable text starts ends n → Measurable text starts ends m

@@ -1,32 +1,27 @@
 -- Laws of where the lines of a text start and end.
-use Prim.Native.Nat.{ℕ, zero, suc, _+_, _-_, _≤_, _<_}
+use Prim.Native.Nat.{ℕ, _+_, _-_, _≤_, _<_}
 use mathlib.Core.Path.{_≡_, refl, sym, ap, _∙_}
-use mathlib.Core.List.{List, [], _∷_}
+use mathlib.Core.List.{List}
 use native.Mathlib.Omega.{arith}
 use lib.ListN.{length, getD, take, drop, set, length-set, length-take}
-use lib.Seq.{take-take, drop-drop}
+use lib.Seq.{take-take}
 use mir.Syntax.{w16, w64}
 use mir.Val.{Fits}
 use borrow.Author.Needs.{fits-under}
 use Rattle.seq.specs.Lists.{sum}
 use Rattle.seq.proofs.Gathered.{sum-step, sum-within}
 use Rattle.text.specs.Trim.{trimEnd}
+use Rattle.text.specs.Lines.{noText}
 use Rattle.text.proofs.TrimLaws.{trim-prefix, trim-shorter}
 use Rattle.grid.specs.Flat.{splitText}
+use Rattle.grid.proofs.FlatLaws.{split-at}
 use Rattle.sizes.specs.Lines.{Trimmed}
 use Rattle.sizes.proofs.EachLaws.{each-set-both}
-
--- line i of a text back to back
-split-at : (lengths text : List ℕ) (i : ℕ) → i < length lengths → getD (splitText lengths text) i [] ≡ take (getD lengths i 0) (drop (sum (take i lengths)) text)
-unfolding splitText sum
-split-at [] text i h = absurd (omega arith)
-split-at (n ∷ ns) text zero h = refl
-split-at (n ∷ ns) text (suc i) h = split-at ns (drop n text) i (omega arith) ∙ rw (drop-drop (sum (take i ns)) n text)
 
 module _ (lengths text starts₀ ends₀ : List ℕ) where
   -- line j, trimmed, stands from a to b
   abbrev Stands : ℕ → ℕ → ℕ → Type 0
-  Stands j a b = (a ≤ b) × (b ≤ length text) × (take (b - a) (drop a text) ≡ trimEnd (getD (splitText lengths text) j []))
+  Stands j a b = (a ≤ b) × (b ≤ length text) × (take (b - a) (drop a text) ≡ trimEnd (getD (splitText lengths text) j noText))
 
   -- the first i lines are trimmed, and line i starts at `at`
   pub record Trimming (starts ends : List ℕ) (at i : ℕ) : Type 0 where
@@ -87,7 +82,7 @@ module _ (lengths text starts₀ ends₀ : List ℕ) where
         prefix : line ≡ take (length line) (take (getD lengths i 0) (drop at text))
         prefix = is ∙ trim-prefix (take (getD lengths i 0) (drop at text)) ∙ ap (λ (l : List ℕ). take (length l) (take (getD lengths i 0) (drop at text))) (sym is)
 
-        here : take (at + length line - at) (drop at text) ≡ trimEnd (getD (splitText lengths text) i [])
+        here : take (at + length line - at) (drop at text) ≡ trimEnd (getD (splitText lengths text) i noText)
         here =
             let n : at + length line - at ≡ length line = omega arith in
             rw (n, split-at lengths text i h, ← t .passed, ← is)

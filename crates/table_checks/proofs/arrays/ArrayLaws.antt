@@ -9,7 +9,7 @@ use lib.Dec.{eqb, ltb}
 use lib.ListN.{length, getD, drop}
 use borrow.Author.Tests.{lt-ltb, le-ltb, eqb-true, eq-eqb, not-true, not-false}
 use Rattle.seq.specs.Lists.{sum, all, any}
-use Rattle.seq.proofs.Tests.{both-true, and-intro, bool-same, le-or-lt}
+use Rattle.seq.proofs.Tests.{and-assoc, both-true, and-intro, bool-same, le-or-lt}
 use Rattle.grid.specs.Flat.{lengthIs, everyNth, tableContradicts}
 use Rattle.reading.specs.Agreement.{anyOver}
 use Rattle.table_checks.specs.Entries.{entries}
@@ -58,9 +58,12 @@ pub codes-known : (columns : ℕ) (cols sections : List ℕ) (s t : Bool) → s 
 codes-known columns cols sections s t e f = rw (e, f, not-over 3 (everyNth 2 columns cols))
 
 -- ---- 13
-and-assoc : (s t u : Bool) → s && t && u ≡ s && (t && u)
-and-assoc true t u = refl
-and-assoc false t u = refl
+pub sized-agree : (columns rows n : ℕ) (cols sections cells : List ℕ) → lengthIs cols (2 * columns) && lengthIs sections rows && lengthIs cells (5 * n) ≡ true
+    → (length cols ≡ 2 * columns) × (length sections ≡ rows) × (length cells ≡ 5 * n)
+sized-agree columns rows n cols sections cells e =
+    let (front, c) = both-true (lengthIs cols (2 * columns) && lengthIs sections rows) (lengthIs cells (5 * n)) e in
+    let (a, b) = both-true (lengthIs cols (2 * columns)) (lengthIs sections rows) front in
+    (eqb-true (length cols) (2 * columns) a, eqb-true (length sections) rows b, eqb-true (length cells) (5 * n) c)
 
 module _ (lengths text : List ℕ) (lines bytes : ℕ) (a : Bool) (fit : not (a && eqb (length lengths) lines && eqb (length text) bytes) ≡ false) where
   agreed : (a ≡ true) × (length lengths ≡ lines) × (length text ≡ bytes)
@@ -83,11 +86,7 @@ module _ (columns rows n lines bytes : ℕ) (cols sections cells lengths text : 
 
   module _ (fit : not (a && eqb (length lengths) lines && eqb (length text) bytes) ≡ false) where
     sizes-agree : (length cols ≡ 2 * columns) × (length sections ≡ rows) × (length cells ≡ 5 * n)
-    sizes-agree =
-        let all-three = sym told ∙ agreed lengths text lines bytes a fit .0 in
-        let (front, c) = both-true (lengthIs cols (2 * columns) && lengthIs sections rows) (lengthIs cells (5 * n)) all-three in
-        let (a, b) = both-true (lengthIs cols (2 * columns)) (lengthIs sections rows) front in
-        (eqb-true (length cols) (2 * columns) a, eqb-true (length sections) rows b, eqb-true (length cells) (5 * n) c)
+    sizes-agree = sized-agree columns rows n cols sections cells (sym told ∙ agreed lengths text lines bytes a fit .0)
 
     pub cols-room : length cols ≡ 2 * columns
     cols-room = sizes-agree .0

@@ -16,6 +16,7 @@ use Rattle.seq.specs.Lists.{select, neighbours}
 use Rattle.seq.proofs.Tests.{true-not-false, and-intro, bool-same, refused, le-or-lt, bit, bit-true, bit-false}
 use Rattle.seq.proofs.Searches.{count-cons, count-none}
 use Rattle.seq.proofs.Sorted.{sorted-behind}
+use Rattle.seq.proofs.Gathered.{count-append}
 use Rattle.grid.specs.Values.{TableCell}
 use Rattle.drawing.specs.GridRules.{comesBefore, holdsSquare, coverOnce}
 use Rattle.representation.specs.TableIn.{noCell, cellIn}
@@ -23,7 +24,7 @@ use Rattle.representation.proofs.TableInLaws.{cells-length, cells-at}
 use Rattle.table_checks.specs.Places.{placesOf, gridIn, Laid}
 use Rattle.table_checks.specs.Skyline.{allAt, Raised}
 use Rattle.table_checks.proofs.cover.LevelLaws.{all-at-levels, levels-all-at, raised-inside, raised-left, raised-right}
-use Rattle.table_checks.proofs.cover.SquareLaws.{held, count-append, rows-join, holds-column, not-left, not-right, not-above}
+use Rattle.table_checks.proofs.cover.SquareLaws.{held, rows-join, holds-column, not-left, not-right, not-above}
 use Rattle.table_checks.proofs.cover.SquareLaws.{later-rows, cover-squares, squares-cover}
 
 -- the cells hold each square above the skyline once, and none below it

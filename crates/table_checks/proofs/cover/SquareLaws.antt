@@ -1,30 +1,27 @@
 -- Laws of the squares that cells hold, and of their order.
 use Prim.Native.Nat.{ℕ, _+_, _≤_, _<_}
-use mathlib.Core.Path.{_≡_, refl, ap, _∙_}
+use mathlib.Core.Path.{_≡_, _∙_}
 use mathlib.Core.Bool.{Bool, true, false, _&&_}
 use mathlib.Core.Logic.{⊎-elim}
-use mathlib.Core.List.{List, [], _∷_, _++_, map, List·Memᴰ}
+use mathlib.Core.List.{List, [], _∷_, map, List·Memᴰ}
 use native.Mathlib.Omega.{arith}
 use lib.Dec.{eqb, leb, ltb}
-use lib.ListN.{length, length-append, length-map}
+use lib.ListN.{length, length-map}
 use borrow.Author.Tests.{eqb-true, eq-eqb, le-leb, lt-leb, lt-ltb, le-ltb}
-use Rattle.seq.specs.Lists.{upTo, all, select, count, neighbours}
-use Rattle.seq.proofs.Tests.{and-false, refused, le-or-lt, lex-cases, lex-trans, bit}
+use Rattle.seq.specs.Lists.{upTo, all, count, neighbours}
+use Rattle.seq.proofs.Tests.{and-false, le-or-lt, lex-cases, bit, and-true}
 use Rattle.seq.proofs.Searches.{all-range, range-all}
-use Rattle.seq.proofs.Sorted.{Strict, sorted-head}
-use Rattle.seq.proofs.Gathered.{select-append}
+use Rattle.seq.proofs.Sorted.{sorted-head}
 use Rattle.grid.specs.Values.{TableCell}
 use Rattle.grid.specs.Flat.{codeSection, columnsOfArray}
 use Rattle.drawing.specs.GridRules.{comesBefore, holdsSquare, coverOnce}
+use Rattle.drawing.proofs.CellPlaces.{comesBefore-strict}
 use Rattle.representation.proofs.TableInLaws.{columns-length}
 use Rattle.table_checks.specs.Places.{placesOf, gridIn}
 
 -- how many of the cells hold a square
 abbrev pub held : ℕ → ℕ → List TableCell → ℕ
 held y x cells = count (holdsSquare y x) cells
-
-pub count-append : {A : Type 0} (test : A → Bool) (k l : List A) → count test (k ++ l) ≡ count test k + count test l
-count-append test k l = ap length (select-append test k l) ∙ length-append (select test k) (select test l)
 
 -- rows up to row, and those from there up to bottom
 pub rows-join : (y row bottom : ℕ) → row ≤ bottom → bit (ltb y row) + bit (leb row y && ltb y bottom) ≡ bit (ltb y bottom)
@@ -33,10 +30,6 @@ rows-join y row bottom h =
     (λ (u : y < row). rw (lt-leb row y u, lt-ltb y row u, lt-ltb y bottom (omega arith))) (le-or-lt row y)
 
 -- ---- the squares of a cell
-and-true : (t : Bool) → t && true ≡ t
-and-true true = refl
-and-true false = refl
-
 module _ (c : TableCell) (y x : ℕ) where
   pub holds-column : c .column ≤ x → x < c .column + c .colspan → holdsSquare y x c ≡ leb (c .row) y && ltb y (c .row + c .rowspan)
   holds-column low high =
@@ -53,14 +46,6 @@ module _ (c : TableCell) (y x : ℕ) where
   not-above h = rw (lt-leb (c .row) y h)
 
 -- ---- the order of cells
-comesBefore-strict : Strict comesBefore
-comesBefore-strict =
-    record {
-      irreflexive = λ a.
-          refused (comesBefore a a) (λ e. ⊎-elim (λ h. omega arith) (λ h. omega arith) (lex-cases (a .row) (a .row) (a .column) (a .column) e));
-      transitive = λ a b c. lex-trans (a .row) (b .row) (c .row) (a .column) (b .column) (c .column);
-    }
-
 -- later cells start no higher
 pub later-rows : (c : TableCell) (l : List TableCell) → neighbours comesBefore (c ∷ l) ≡ true → {d : TableCell} → List·Memᴰ d l → c .row ≤ d .row
 later-rows c l e {d} m =

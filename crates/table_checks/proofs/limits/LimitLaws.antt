@@ -13,15 +13,15 @@ use Rattle.seq.proofs.Searches.{any-map}
 use Rattle.grid.specs.Limits.{maxLines, maxLineBytes, maxBytes, maxWidth, maxColumns, maxRows, maxCells, maxOrigin, maxTableLines}
 use Rattle.grid.specs.Values.{GridTableColumn, Table}
 use Rattle.grid.specs.Flat.{codeSection, columnsOfArray, everyNth, splitText}
-use Rattle.grid.proofs.FlatLaws.{length-split}
+use Rattle.grid.proofs.FlatLaws.{length-split, split-lengths}
 use Rattle.drawing.specs.Redraw.{tableEmpty, shapeTooLarge, linesTooLarge, tableTooLarge}
 use Rattle.reading.specs.Agreement.{anyOver}
 use Rattle.representation.specs.TableIn.{tableIn}
-use Rattle.representation.proofs.TableInLaws.{columns-length, cells-length}
+use Rattle.representation.proofs.TableInLaws.{columns-length, cells-length, lines-whole}
 use Rattle.table_checks.specs.Entries.{entries}
 use Rattle.table_checks.specs.Agreement.{Agree}
 use Rattle.table_checks.proofs.entries.EntryLaws.{entries-all}
-use Rattle.table_checks.proofs.LineLaws.{lines-whole, counts-over, split-lengths}
+use Rattle.table_checks.proofs.LineLaws.{counts-over}
 
 -- ---- 1
 empty-length : {A : Type 0} (l : List A) → isEmpty l ≡ eqb (length l) 0
@@ -55,7 +55,7 @@ module _ (n : ℕ) (cells lengths text : List ℕ) (agree : Agree n cells length
   lines-apart a b e f columns cols sections =
       let lines = splitText lengths text in
       let count = length-split lengths text in
-      let whole = lines-whole n cells lines (agree .linesAgree ∙ sym count) in
+      let whole = lines-whole n cells lines (omega (arith, agree .linesAgree, count)) in
       let each = split-lengths lengths text (omega (arith, agree .bytesAgree)) in
       let short : any (λ line. ltb maxLineBytes (length line)) lines ≡ any (λ n. ltb maxLineBytes n) lengths =
       sym (any-map length (λ n. ltb maxLineBytes n) lines) ∙ rw each in

@@ -81,17 +81,18 @@ same-code a b u w =
     (λ e. eq-eqb a b (omega (arith, leb-true a b (and-left (leb a b) (leb b a) e), leb-true b a (and-right (leb a b) (leb b a) e))))
     (λ e. let same = eqb-true a b e in and-intro (le-leb a b (omega (arith, same))) (le-leb b a (omega (arith, same)))))
 
-module _ (columns n : ℕ) (sections cells : List ℕ) (laid : Laid columns n sections cells) (run : neighbours leb sections ≡ true) where
+-- the sections of two rows, by their codes
+module _ (sections : List ℕ) (known : all (λ code. ltb code 3) sections ≡ true) where
   code : (i : ℕ) → i < length sections → getD sections i 0 < 3
-  code i h = ltb-true (getD sections i 0) 3 (all-mem (λ code. ltb code 3) sections (laid .placed .codes) (getD-mem sections i 0 h))
+  code i h = ltb-true (getD sections i 0) 3 (all-mem (λ code. ltb code 3) sections known (getD-mem sections i 0 h))
 
-  -- the sections of two rows, by their codes
-  same-rows : (i j : ℕ) → i < length sections → j < length sections
+  pub same-rows : (i j : ℕ) → i < length sections → j < length sections
       → sameSection (getD (map codeSection sections) i Body) (getD (map codeSection sections) j Body) ≡ eqb (getD sections i 0) (getD sections j 0)
   same-rows i j u w =
       rw (getD-map codeSection sections i Body 0 u, getD-map codeSection sections j Body 0 w)
       (same-code (getD sections i 0) (getD sections j 0) (code i u) (code j w))
 
+module _ (columns n : ℕ) (sections cells : List ℕ) (laid : Laid columns n sections cells) (run : neighbours leb sections ≡ true) where
   -- a cell crosses none where its first and its last row agree, since those between lie between
   whole-told : (k : ℕ) → Within columns (length sections) cells k → staysWhole (gridIn columns n sections cells) (cellIn cells [] k)
       ≡ eqb (getD sections (getD cells (5 * k) 0) 0) (getD sections (getD cells (5 * k) 0 + getD cells (5 * k + 3) 0 - 1) 0)
@@ -103,9 +104,9 @@ module _ (columns n : ℕ) (sections cells : List ℕ) (laid : Laid columns n se
       let tall : 0 < span = w .tall in
       let low : row + span ≤ length sections = w .low in
       bool-same (all test (range row span)) (eqb (getD sections row 0) (getD sections last 0))
-      (λ e. sym (same-rows row last (omega arith) (omega arith)) ∙ all-range test row span e last (omega arith) (omega arith))
+      (λ e. sym (same-rows sections (laid .placed .codes) row last (omega arith) (omega arith)) ∙ all-range test row span e last (omega arith) (omega arith))
       (λ e. range-all test row span (λ r u v.
-      same-rows row r (omega arith) (omega arith)
+      same-rows sections (laid .placed .codes) row r (omega arith) (omega arith)
       ∙ eq-eqb (getD sections row 0) (getD sections r 0)
       (let ends = eqb-true (getD sections row 0) (getD sections last 0) e in
       omega (arith, ends, rising sections run row r u (omega arith), rising sections run r last (omega arith) (omega arith)))))

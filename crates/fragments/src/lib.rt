@@ -1,5 +1,6 @@
 // Cutting one line of a cell (mod.rs: cell_fragment).
 pub mod part;
+pub mod view;
 
 use crate::part::cut_part;
 use text::ByteAt;

@@ -1,0 +1,2 @@
+pub mod PageCellLaws
+pub mod PageLaws

@@ -1,0 +1,2 @@
+-- A cell on the page.
+pub mod CellLaws

@@ -1,0 +1,2 @@
+-- The checks of a page.
+pub mod PageCheckLaws

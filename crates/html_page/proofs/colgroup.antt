@@ -1,0 +1,2 @@
+-- The columns' shares on the page.
+pub mod ColgroupLaws

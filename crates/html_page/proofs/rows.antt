@@ -1,0 +1,3 @@
+-- The rows of a page.
+pub mod EdgeLaws
+pub mod RowLaws

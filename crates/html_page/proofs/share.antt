@@ -1,0 +1,2 @@
+-- A column's share.
+pub mod ShareLaws

@@ -1,0 +1,2 @@
+-- Laws of the search for the last end.
+pub mod SearchLaws

@@ -1,0 +1,2 @@
+-- Laws of the positions of cells.
+pub mod RectLaws

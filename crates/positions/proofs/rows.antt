@@ -1,0 +1,2 @@
+-- Laws of the positions of whole lines.
+pub mod RowLaws

@@ -1,0 +1,2 @@
+-- Laws of positions and of their four numbers.
+pub mod SpanLaws

@@ -1,0 +1,4 @@
+pub mod Spans
+pub mod Parts
+pub mod Needs
+pub mod Answer

@@ -4,3 +4,7 @@ pub mod TableReplyLaws
 pub mod CellReplyLaws
 pub mod RedrawReplyLaws
 pub mod SheetReplyLaws
+pub mod PositionsReplyLaws
+pub mod CellPositionReplyLaws
+pub mod LineEndReplyLaws
+pub mod PageReplyLaws

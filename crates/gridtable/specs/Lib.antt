@@ -4,3 +4,7 @@ pub mod TableReply
 pub mod CellReply
 pub mod RedrawReply
 pub mod SheetReply
+pub mod PositionsReply
+pub mod CellPositionReply
+pub mod LineEndReply
+pub mod PageReply

@@ -1,15 +1,22 @@
 // The public calls for C and Rust: slices as pointer and length, answers as one struct. In C the
 // arrays must be valid for their lengths and aligned, and one that is written may overlap no other.
+pub mod cell_position_reply;
 pub mod cell_reply;
 pub mod cells;
 pub mod cut_reply;
 pub mod fragment;
 pub mod layout_reply;
+pub mod line_end_reply;
+pub mod page_reply;
+pub mod pages;
+pub mod positions_reply;
 pub mod redraw_reply;
 pub mod redraws;
+pub mod registers;
 pub mod reply;
 pub mod sheet_reply;
 pub mod sheets;
+pub mod source_positions;
 pub mod table_reply;
 pub mod tables;
 

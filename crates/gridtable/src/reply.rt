@@ -68,3 +68,75 @@ pub struct SheetReply {
     pub lines: usize,
     pub bytes: usize,
 }
+
+// Number 0 is acceptance; then the table's position, and how many rows and cells were written. A
+// refusal has its number and place, and 0 for the rest.
+#[repr(C)]
+pub struct PositionsReply {
+    pub number: usize,
+    pub place: usize,
+    pub start_line: u32,
+    pub start_column: u32,
+    pub end_line: u32,
+    pub end_column: u32,
+    pub rows: usize,
+    pub cells: usize,
+}
+
+// Number 0 is acceptance; then the cell's position. A refusal has its number and place, and 0 for
+// the rest.
+#[repr(C)]
+pub struct CellPositionReply {
+    pub number: usize,
+    pub place: usize,
+    pub start_line: u32,
+    pub start_column: u32,
+    pub end_line: u32,
+    pub end_column: u32,
+}
+
+// Number 0 is acceptance; then how many ends the register holds. A refusal has its number and place,
+// and 0 for the count.
+#[repr(C)]
+pub struct AddReply {
+    pub number: usize,
+    pub place: usize,
+    pub count: usize,
+}
+
+// Number 0 is acceptance; then `found` is 1 and `eol` that of the end, or both are 0 where none
+// reaches. A refusal has its number and place, and 0 for the rest.
+#[repr(C)]
+pub struct FindReply {
+    pub number: usize,
+    pub place: usize,
+    pub found: usize,
+    pub eol: u32,
+}
+
+// Number 0 is acceptance; then the end as it was moved. A refusal has its number and place, and 0 for
+// the rest.
+#[repr(C)]
+pub struct RemapReply {
+    pub number: usize,
+    pub place: usize,
+    pub line: u32,
+    pub start: u32,
+    pub eol: u32,
+}
+
+// Number 0 is acceptance; then how many bytes the page has. A refusal has its number and place, and 0
+// for the bytes.
+#[repr(C)]
+pub struct PageReply {
+    pub number: usize,
+    pub place: usize,
+    pub bytes: usize,
+}
+
+// A share in hundredths of a percent, and their quotient by 100.
+#[repr(C)]
+pub struct ShareReply {
+    pub hundredths: u32,
+    pub percent: f64,
+}

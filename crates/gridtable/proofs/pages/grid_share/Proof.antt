@@ -1,0 +1,15 @@
+-- `gridtable::pages::grid_share` meets its contract: the share as a reply.
+use mathlib.Core.Path.{ap}
+use Rattle.gridtable.specs.PageReply.{shareReplyOf}
+use borrow.Author.Needs.{needs}
+use Rattle.gridtable.proofs.pages.grid_share.Statement.{statement}
+use Rattle.gridtable.proofs.pages.grid_share.Tie as tie
+
+share-of-requires : tie.Need-share-of-requires
+share-of-requires c κs = search needs
+
+returns : tie.Need-returns
+returns c = ap shareReplyOf (c .share-of .ensures)
+
+pub grid-share-spec : {M : Type 1} → statement M
+grid-share-spec = tie.close (tie.spec share-of-requires returns)

@@ -1,5 +1,5 @@
-// What the programs share: a sheet from standard input, as far as a buffer holds it, a result to
-// standard output, and a line on standard error where one of them fails.
+// What the programs share: their arguments, a sheet from standard input, as far as a buffer holds it,
+// a result to standard output, and a line on standard error where one of them fails.
 ghost use Rattle.input.specs.Within.{Within};
 
 pub enum Input {
@@ -35,6 +35,41 @@ pub fn read_sheet(name: &[u8], buffer: &mut [u8]) -> Input
         say(b"usage: ", name, b" < SHEET\n");
         return Input::Failed;
     }
+    read_bytes(name, buffer)
+}
+
+// Whether a program has its one option.
+pub enum Choice {
+    Off,
+    On,
+    Other,
+}
+
+// What the arguments of a program with this one option choose.
+pub fn read_choice(option: &[u8]) -> Choice {
+    let count = os::arg_count();
+    if count <= 1 {
+        return Choice::Off;
+    }
+    // A word that does not fit is read as none.
+    let mut word = [0u8; 32];
+    let n = os::arg(1, &mut word);
+    if (count == 2) & check::same(&word[0..n], option) {
+        return Choice::On;
+    }
+    Choice::Other
+}
+
+// A line of usage of the program of this name and option.
+pub fn say_usage(name: &[u8], option: &[u8]) {
+    say(b"usage: ", name, b" [");
+    say(b"", option, b"] < SHEET\n");
+}
+
+// The bytes of the sheet, or a line that there are none.
+pub fn read_bytes(name: &[u8], buffer: &mut [u8]) -> Input
+    ensures { λ r. ⌜ Within (now (buffer .exit)) r ⌝ }
+{
     let input = read_input(buffer);
     match input {
         Input::Failed => {

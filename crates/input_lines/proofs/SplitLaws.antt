@@ -18,7 +18,7 @@ use Rattle.grid.specs.Values.{Line}
 use Rattle.grid.specs.Flat.{splitText}
 use Rattle.grid.specs.Read.{drawingTooLarge, lineTooLarge}
 use Rattle.grid.specs.Listing.{lineFeed, splitLines, linesRead}
-use Rattle.grid.proofs.FlatLaws.{length-split}
+use Rattle.grid.proofs.FlatLaws.{length-split, split-lengths}
 use Rattle.printing.specs.Printing.{Put}
 use Rattle.input_lines.specs.Splitting.{Held, Splitting, onto}
 use Rattle.printing.proofs.PutLaws.{put-next}
@@ -117,12 +117,7 @@ bytes-append [] ms = omega arith
 bytes-append (l ∷ ls) ms = rw (bytes-append ls ms) (omega arith)
 
 bytes-split : (ns t : List ℕ) → sum ns ≤ length t → bytesIn (splitText ns t) ≡ sum ns
-unfolding splitText sum
-bytes-split [] t h = refl
-bytes-split (n ∷ ns) t h =
-    let first : length (take n t) ≡ n = length-take-le n t (omega arith) in
-    let others : bytesIn (splitText ns (drop n t)) ≡ sum ns = bytes-split ns (drop n t) (omega (arith, length-drop n t)) in
-    rw (first, others)
+bytes-split ns t h = ap sum (split-lengths ns t h)
 
 abbrev lineOf : List ℕ → Line
 lineOf t = record { text = t; column = 0 }

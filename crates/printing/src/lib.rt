@@ -1,8 +1,9 @@
 // Numbers and words, printed into a buffer. Each function gives the place after what it wrote.
+use writer::decimals::digits;
 ghost use Prim.Native.Nat.{_+_, _*_, _≤_, _<_};
 ghost use mathlib.Core.Path.{_≡_};
 ghost use mathlib.Core.List.{[], _∷_, _++_};
-ghost use lib.ListN.{length, getD, drop};
+ghost use lib.ListN.{length, getD};
 ghost use Rattle.seq.specs.Decimal.{decimal};
 ghost use Rattle.printing.specs.Printing.{Put, Prints, spaced, cellPrinted, refusedLine};
 
@@ -24,24 +25,6 @@ pub fn copy(bytes: &[u8], out: &mut [u8], at: usize) -> usize
         i += 1;
     }
     at + i
-}
-
-// Puts the decimal digits at the end of `digits` and gives the place of the first.
-fn digits(number: usize, digits: &mut [u8]) -> usize
-    requires { ⌜ length (now digits) ≡ 20 ⌝ }
-    ensures { λ r. ⌜ (length (now (digits .exit)) ≡ 20) × (r ≤ 20) × (drop r (now (digits .exit)) ≡ decimal number) ⌝ }
-{
-    let mut left = number;
-    let mut i = 20;
-    while 0 < i {
-        i -= 1;
-        digits[i] = b'0' + (left % 10) as u8;
-        if left < 10 {
-            return i;
-        }
-        left = left / 10;
-    }
-    i
 }
 
 fn decimal(number: usize, out: &mut [u8], at: usize) -> usize

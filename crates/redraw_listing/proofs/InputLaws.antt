@@ -8,12 +8,12 @@ use lib.ListN.{take}
 use Rattle.grid.specs.Read.{drawingTooLarge, readTable}
 use Rattle.grid.specs.Flat.{splitText}
 use Rattle.grid.specs.Listing.{linesRead}
+use Rattle.drawing.specs.Listing.{redrawListing}
 use Rattle.printing.specs.Printing.{refusedLine}
 use Rattle.input_lines.specs.Splitting.{Splits}
 use Rattle.input_lines.specs.declared.Split.{Split}
 use Rattle.input_lines.specs.declared.Split.the-variants.{Lines, TooLarge}
 use Rattle.input_lines.proofs.SheetLaws.{too-large-refused, split-held}
-use Rattle.redraw_listing.specs.Listing.{redrawListing}
 use Rattle.redraw_listing.specs.Told.{linesRedrawn}
 
 pub large-redrawn : (input lengths text : List ℕ) (r : Split) → r ≡ TooLarge → Splits input lengths text r → refusedLine 2 0 ≡ redrawListing input

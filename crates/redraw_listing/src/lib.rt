@@ -8,7 +8,7 @@ use input_lines::split_lines;
 use printing::refused;
 ghost use Prim.Native.Nat.{_≤_};
 ghost use lib.ListN.{length};
-ghost use Rattle.redraw_listing.specs.Listing.{redrawListing};
+ghost use Rattle.drawing.specs.Listing.{redrawListing};
 ghost use Rattle.printing.specs.Printing.{Prints};
 
 // Writes the redrawing of `input` at the start of `out` and counts the bytes.

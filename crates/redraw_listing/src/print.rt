@@ -8,8 +8,8 @@ ghost use mathlib.Core.List.{flatMap};
 ghost use lib.ListN.{length};
 ghost use Rattle.seq.specs.Lists.{sum};
 ghost use Rattle.grid.specs.Flat.{splitText};
+ghost use Rattle.drawing.specs.Listing.{endedLine};
 ghost use Rattle.printing.specs.Printing.{Prints};
-ghost use Rattle.redraw_listing.specs.Listing.{endedLine};
 
 // Each line and a line feed.
 pub fn print_lines(lengths: &[u16], text: &[u8], out: &mut [u8]) -> usize

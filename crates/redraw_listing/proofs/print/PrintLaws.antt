@@ -9,9 +9,9 @@ use lib.Seq.{drop-cons, drop-drop}
 use Rattle.seq.specs.Lists.{sum}
 use Rattle.grid.specs.Flat.{splitText}
 use Rattle.grid.specs.Listing.{lineFeed}
+use Rattle.drawing.specs.Listing.{endedLine}
 use Rattle.printing.specs.Printing.{Put, Prints}
 use Rattle.printing.proofs.PutLaws.{put-then}
-use Rattle.redraw_listing.specs.Listing.{endedLine}
 
 module _ (lengths text d : List ℕ) where
   abbrev ended : List ℕ → List ℕ → List ℕ

@@ -1,5 +1,4 @@
 -- `replay_table::answer_with` is safe and ends.
-use Prim.Native.Nat.{_-_}
 use Rattle.replaying.proofs.PartLaws.{part-kept}
 use borrow.Author.Needs.{needs}
 use Rattle.replay_table.proofs.answer_with.Statement.{statement}
@@ -117,29 +116,19 @@ table-requires : tie.Need-table-requires
 table-requires c κs = search needs
 
 slice-aggregate-print-answer : tie.Need-slice-aggregate-print-answer
-slice-aggregate-print-answer c =
-    let call = c .before .before .before .before .before .before .before .before .before .before .before .before .before .table in
-    part-kept 254 (c .before .before .before .before .before .before .before .before .before .before .before .before .before .before .before .before .before .before .before .before .before .before .before .before .before .before .before .before .before .args .h - 0) (call .last .1 .1 .1 .1 .1 .1 .1 .1 .1 .1 .1 .1 .0) (c .before .before .before .before .before .cols2 .given)
+slice-aggregate-print-answer c = search (part-kept, c .before .before .before .before .before .cols2 .given)
 
 slice-aggregate-print-answer-2 : tie.Need-slice-aggregate-print-answer-2
-slice-aggregate-print-answer-2 c =
-    let call = c .before .before .before .before .before .before .before .before .before .before .before .before .before .before .table in
-    part-kept 127 (c .before .before .before .before .before .before .before .before .before .before .before .before .before .before .before .before .before .before .before .before .before .before .before .before .before .before .before .before .before .before .args .k - 0) (call .last .1 .1 .1 .1 .1 .1 .1 .1 .1 .1 .1 .1 .1 .0) (c .before .before .before .before .before .sections2 .given)
+slice-aggregate-print-answer-2 c = search (part-kept, c .before .before .before .before .before .sections2 .given)
 
 slice-aggregate-print-answer-3 : tie.Need-slice-aggregate-print-answer-3
-slice-aggregate-print-answer-3 c =
-    let call = c .before .before .before .before .before .before .before .before .before .before .before .before .before .before .before .table in
-    part-kept 5120 (c .before .before .before .before .before .before .before .before .before .before .before .before .before .before .before .before .before .before .before .before .before .before .before .before .before .before .before .before .before .before .before .args .m - 0) (call .last .1 .1 .1 .1 .1 .1 .1 .1 .1 .1 .1 .1 .1 .1 .0) (c .before .before .before .before .before .cells2 .given)
+slice-aggregate-print-answer-3 c = search (part-kept, c .before .before .before .before .before .cells2 .given)
 
 slice-aggregate-print-answer-4 : tie.Need-slice-aggregate-print-answer-4
-slice-aggregate-print-answer-4 c =
-    let call = c .before .before .before .before .before .before .before .before .before .before .before .before .before .before .before .before .table in
-    part-kept 16384 (c .before .before .before .before .before .before .before .before .before .before .before .before .before .before .before .before .before .before .before .before .before .before .before .before .before .before .before .before .before .before .before .before .args .n - 0) (call .last .1 .1 .1 .1 .1 .1 .1 .1 .1 .1 .1 .1 .1 .1 .1 .0) (c .before .before .before .before .before .out-lengths2 .given)
+slice-aggregate-print-answer-4 c = search (part-kept, c .before .before .before .before .before .out-lengths2 .given)
 
 slice-aggregate-print-answer-5 : tie.Need-slice-aggregate-print-answer-5
-slice-aggregate-print-answer-5 c =
-    let call = c .before .before .before .before .before .before .before .before .before .before .before .before .before .before .before .before .before .table in
-    part-kept 32768 (c .before .before .before .before .before .before .before .before .before .before .before .before .before .before .before .before .before .before .before .before .before .before .before .before .before .before .before .before .before .before .before .before .before .args .p - 0) (call .last .1 .1 .1 .1 .1 .1 .1 .1 .1 .1 .1 .1 .1 .1 .1 .1 .0) (c .before .before .before .before .before .out-text2 .given)
+slice-aggregate-print-answer-5 c = search (part-kept, c .before .before .before .before .before .out-text2 .given)
 
 print-answer-requires : tie.Need-print-answer-requires
 print-answer-requires c κs = search needs

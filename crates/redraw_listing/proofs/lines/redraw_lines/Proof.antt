@@ -1,6 +1,7 @@
 -- `redraw_listing::lines::redraw_lines` meets its contract: each return by what the table call tells.
 use Prim.Native.Nat.{_≤_}
-use Rattle.redraw_listing.proofs.lines.ToldLaws.{table-held, table-small, two-fits, five-fits, table-printed, unread-printed}
+use Rattle.redraw_listing.proofs.lines.ToldLaws.{table-printed, unread-printed}
+use Rattle.input_table.proofs.ToldLaws.{table-held, table-small, two-fits, five-fits}
 use borrow.Author.Needs.{needs}
 use Rattle.redraw_listing.proofs.lines.redraw_lines.Statement.{statement}
 use Rattle.redraw_listing.proofs.lines.redraw_lines.Tie as tie

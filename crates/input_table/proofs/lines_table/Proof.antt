@@ -1,8 +1,8 @@
--- `redraw_listing::lines::lines_table` meets its contract: what the table call tells.
-use Rattle.redraw_listing.proofs.lines.ToldLaws.{lines-told}
+-- `input_table::lines_table` meets its contract: what the table call tells.
+use Rattle.input_table.proofs.ToldLaws.{lines-told}
 use borrow.Author.Needs.{needs}
-use Rattle.redraw_listing.proofs.lines.lines_table.Statement.{statement}
-use Rattle.redraw_listing.proofs.lines.lines_table.Tie as tie
+use Rattle.input_table.proofs.lines_table.Statement.{statement}
+use Rattle.input_table.proofs.lines_table.Tie as tie
 
 sub-table : tie.Need-sub-table
 sub-table c = search needs

@@ -1,0 +1,4 @@
+-- Laws of escaping: a byte and a line, the lines of a cell, all cells.
+pub mod ByteLaws
+pub mod LineLaws
+pub mod CellLaws

@@ -1,0 +1,2 @@
+-- Laws of a table's page, printed.
+pub mod PagedLaws

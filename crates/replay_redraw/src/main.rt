@@ -1,0 +1,209 @@
+// Answers cases on standard input with the redraw call, a line for a line. The stored answers come from the Rust.
+//
+//     ORIGIN COLUMNS ROWS CELLS LINES BYTES COLS SECTIONS PLACES LENGTHS TEXT SPACES
+//
+// The drawing's origin; the table's sizes; alignment and declared width of each column, each row's section, the five numbers of each
+// cell, line lengths and text; and the lengths of the working space and of the output arrays: starts, ends, firsts, heights, wides,
+// rects, canvas, line lengths, line columns, text; `-` for those that the call names and the largest drawing. Fields are parted by
+// single spaces, numbers of a list by commas; `-` is an empty list. Sections and text are pairs of hexadecimal digits in lower case;
+// `r`, four digits and a pair stand for that byte so many times.
+//
+// An answer is `refused`, number and place; or `accepted`, lines, bytes, all line lengths, all line columns, and the text as it is.
+use cm::draw::RedrawAnswer;
+use libc::STDOUT_FILENO;
+use replaying::find;
+use replaying::least;
+use replaying::move_down;
+use replaying::number_field;
+use replaying::numbers_field;
+use replaying::print;
+use replaying::print_entries;
+use replaying::space;
+use replaying::text_field;
+ghost use Prim.Native.Nat.{_≤_};
+ghost use lib.ListN.{length};
+
+fn print_answer(answer: RedrawAnswer, lengths: &[u16], columns: &[u16], text: &[u8]) {
+    match answer {
+        RedrawAnswer::Refused { number, place } => {
+            io::write_all(STDOUT_FILENO, b"refused");
+            print(number);
+            print(place);
+        }
+        RedrawAnswer::Accepted { lines, bytes } => {
+            io::write_all(STDOUT_FILENO, b"accepted");
+            print(lines);
+            print(bytes);
+            print_entries(lengths, lines);
+            print_entries(columns, lines);
+            io::write_all(STDOUT_FILENO, b" ");
+            let end = least(bytes, text.len());
+            io::write_all(STDOUT_FILENO, &text[0..end]);
+        }
+    }
+    io::write_all(STDOUT_FILENO, b"\n");
+}
+
+// Calls with working space and output arrays of these lengths, in the order of the call.
+fn answer_with(
+    origin: usize,
+    columns: usize,
+    rows: usize,
+    n: usize,
+    lines: usize,
+    bytes: usize,
+    cols: &[u16],
+    sections: &[u8],
+    cells: &[u16],
+    lengths: &[u16],
+    text: &[u8],
+    a: usize,
+    b: usize,
+    c: usize,
+    d: usize,
+    e: usize,
+    f: usize,
+    g: usize,
+    h: usize,
+    k: usize,
+    m: usize,
+)
+    requires { ⌜ (a ≤ 16384) × (b ≤ 16384) × (c ≤ 1024) × (d ≤ 1024) × (e ≤ 1024) × (f ≤ 4096) × (g ≤ 16384) ⌝ }
+    requires { ⌜ (h ≤ 128) × (k ≤ 128) × (m ≤ 32768) ⌝ }
+{
+    let mut starts = [0u16; 16384];
+    let mut ends = [0u16; 16384];
+    let mut firsts = [0u16; 1024];
+    let mut heights = [0u16; 1024];
+    let mut wides = [0u16; 1024];
+    let mut rects = [0u8; 4096];
+    let mut canvas = [0u16; 16384];
+    let mut out_lengths = [0u16; 128];
+    let mut out_columns = [0u16; 128];
+    let mut out_text = [0u8; 32768];
+    let answer = cm::redraw(
+        origin,
+        columns,
+        rows,
+        n,
+        lines,
+        bytes,
+        cols,
+        sections,
+        cells,
+        lengths,
+        text,
+        &mut starts[0..a],
+        &mut ends[0..b],
+        &mut firsts[0..c],
+        &mut heights[0..d],
+        &mut wides[0..e],
+        &mut rects[0..f],
+        &mut canvas[0..g],
+        &mut out_lengths[0..h],
+        &mut out_columns[0..k],
+        &mut out_text[0..m],
+    );
+    print_answer(answer, &out_lengths, &out_columns, &out_text);
+}
+
+// The output arrays hold the largest drawing.
+fn answer(
+    line: &[u8],
+    cols: &[u16],
+    sections: &[u8],
+    cells: &[u16],
+    lengths: &[u16],
+    text: &[u8],
+    spaces: &[u16],
+) {
+    answer_with(
+        number_field(line, 0),
+        number_field(line, 1),
+        number_field(line, 2),
+        number_field(line, 3),
+        number_field(line, 4),
+        number_field(line, 5),
+        cols,
+        sections,
+        cells,
+        lengths,
+        text,
+        space(spaces, 0, 16384),
+        space(spaces, 1, 16384),
+        space(spaces, 2, 1024),
+        space(spaces, 3, 1024),
+        space(spaces, 4, 1024),
+        space(spaces, 5, 4096),
+        space(spaces, 6, 16384),
+        space(spaces, 7, 128),
+        space(spaces, 8, 128),
+        space(spaces, 9, 32768),
+    );
+}
+
+fn answer_line(line: &[u8]) {
+    let mut cols = [0u16; 512];
+    let i = numbers_field(line, 6, &mut cols);
+    let mut sections = [0u8; 512];
+    let j = text_field(line, 7, &mut sections);
+    let mut cells = [0u16; 8192];
+    let n = numbers_field(line, 8, &mut cells);
+    let mut lengths = [0u16; 20000];
+    let m = numbers_field(line, 9, &mut lengths);
+    let mut text = [0u8; 40000];
+    let k = text_field(line, 10, &mut text);
+    let mut spaces = [0u16; 10];
+    let s = numbers_field(line, 11, &mut spaces);
+    answer(
+        line,
+        &cols[0..i],
+        &sections[0..j],
+        &cells[0..n],
+        &lengths[0..m],
+        &text[0..k],
+        &spaces[0..s],
+    );
+}
+
+// Answers the lines that have their line feed, and gives the place after them.
+fn answer_lines(input: &[u8]) -> usize
+    ensures { λ r. ⌜ r ≤ length (now (input .entry)) ⌝ }
+{
+    let mut at = 0;
+    while at < input.len() {
+        let end = find(input, at, b'\n');
+        if end >= input.len() {
+            return at;
+        }
+        answer_line(&input[at..end]);
+        at = end + 1;
+    }
+    at
+}
+
+// Answers what a full buffer holds, and gives how many bytes of an unfinished line are left at its start.
+fn answer_some(buffer: &mut [u8], held: usize) -> usize
+    requires { ⌜ held ≤ length (now buffer) ⌝ }
+    ensures { λ r. ⌜ r ≤ length (now (buffer .exit)) ⌝ }
+{
+    let more = io::read_full(libc::STDIN_FILENO, &mut buffer[held..]);
+    let end = held + more;
+    let used = answer_lines(&buffer[0..end]);
+    move_down(buffer, used, end)
+}
+
+// A turn answers up to 65,536 bytes: 64 are enough for all cases.
+fn answer_all(buffer: &mut [u8]) {
+    let mut held = 0;
+    let mut turns: usize = 0;
+    while turns < 64 {
+        held = answer_some(buffer, held);
+        turns += 1;
+    }
+}
+
+fn main() {
+    let mut buffer = io::large_buffer();
+    answer_all(&mut buffer);
+}

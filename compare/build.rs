@@ -10,14 +10,21 @@ use std::{env, fs};
 
 const VARIABLE: &str = "COMRAK_DIR";
 const LIBRARY: &str = "GRID_LIB_DIR";
-/// The calls that `src/library.rs` declares.
-const CALLS: [&str; 6] = [
+/// The calls that `src/library.rs` and `src/library/beside.rs` declare.
+const CALLS: [&str; 13] = [
     "grid_layout",
     "grid_cell_fragment",
     "grid_table",
     "grid_cell",
     "grid_redraw",
     "grid_redraw_sheet",
+    "grid_positions",
+    "grid_cell_position",
+    "grid_add_line_end",
+    "grid_find_line_end",
+    "grid_remap_line_end",
+    "grid_page",
+    "grid_share",
 ];
 
 fn main() {

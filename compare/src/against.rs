@@ -108,19 +108,10 @@ impl Run {
     /// All small drawings, or evenly chosen ones so that they are at most
     /// half of the calls.
     fn all_small(&mut self, calls: usize) {
-        let families = small::families();
-        let total: usize = families.iter().map(|f| f.count()).sum();
+        let total = small::count();
         let step = (2 * total).div_ceil(calls).max(1);
         println!("small drawings in all: {total}, of which one in {step}");
-        let mut next = 0;
-        let mut before = 0;
-        for family in &families {
-            while next - before < family.count() {
-                self.sheet("small drawings", &family.sheet(next - before));
-                next += step;
-            }
-            before += family.count();
-        }
+        small::evenly(step, |sheet| self.sheet("small drawings", sheet));
     }
 
     fn random(&mut self) {

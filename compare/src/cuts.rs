@@ -120,19 +120,10 @@ impl Run {
 
     /// Small drawings as `compare layout` has them, evenly chosen.
     fn small_sheets(&mut self, cuts: usize) {
-        let families = small::families();
-        let total: usize = families.iter().map(|f| f.count()).sum();
+        let total = small::count();
         let step = SMALL_STEP.max(total.div_ceil(cuts));
         println!("small drawings in all: {total}, of which one in {step}");
-        let mut next = 0;
-        let mut before = 0;
-        for family in &families {
-            while next - before < family.count() {
-                self.sheet("small drawings", &family.sheet(next - before));
-                next += step;
-            }
-            before += family.count();
-        }
+        small::evenly(step, |sheet| self.sheet("small drawings", sheet));
     }
 
     fn random(&mut self) {

@@ -1,9 +1,9 @@
 //! `compare draw`: the library's redraw calls held against the Rust and the
 //! second reading.
 
-mod answers;
+pub mod answers;
 mod lent;
-mod limits;
+pub mod limits;
 mod sheets;
 mod small;
 mod tables;

@@ -195,20 +195,26 @@ pub fn draw(table: &Table, origin: usize) -> Sheet {
     Sheet::of(&lines)
 }
 
+/// Hands over the page of a table that keeps the grid rules, its node tree
+/// ready, each cell with this content.
+pub fn with_page<T>(
+    table: &PageTable,
+    widths: bool,
+    contents: Vec<String>,
+    f: impl FnOnce(&dyn Fn() -> String) -> T,
+) -> T {
+    let arena = Arena::new();
+    let columns = (&table.alignments[..], &table.widths[..]);
+    let root = tree(&arena, columns, &table.sections, &table.places, contents);
+    f(&|| html::page(root, widths))
+}
+
 /// The page of a table that keeps the grid rules. Each inner byte goes
 /// through as the character of that number, since inner bytes need not be
 /// UTF-8; tags are ASCII.
 pub fn page(table: &PageTable, widths: bool) -> Vec<u8> {
-    let mut start = 0;
-    let mut contents = vec![];
-    for &length in &table.lengths {
-        let inner = &table.inner[start..start + length];
-        contents.push(inner.iter().map(|&b| char::from(b)).collect());
-        start += length;
-    }
-    let arena = Arena::new();
-    let columns = (&table.alignments[..], &table.widths[..]);
-    let root = tree(&arena, columns, &table.sections, &table.places, contents);
-    let page = html::page(root, widths);
+    let inner = table.inner_of_cells().into_iter();
+    let contents = inner.map(|bytes| bytes.iter().map(|&b| char::from(b)).collect());
+    let page = with_page(table, widths, contents.collect(), |page| page());
     page.chars().map(|c| u8::try_from(c).unwrap()).collect()
 }

@@ -2,6 +2,8 @@
 //! at the build.
 #![cfg_attr(not(grid_lib), allow(dead_code))]
 
+pub mod beside;
+
 use std::io;
 
 /// Lengths of the working space that the layout call needs.

@@ -2,6 +2,7 @@
 //! that replay them.
 
 mod layout;
+mod redraw;
 mod table;
 
 use std::fs;
@@ -28,7 +29,10 @@ pub fn write(folder: &Path) -> io::Result<()> {
     list.write(&folder.join("replay_layout"))?;
     let mut list = List::default();
     table::cases(&mut list);
-    list.write(&folder.join("replay_table"))
+    list.write(&folder.join("replay_table"))?;
+    let mut list = List::default();
+    redraw::cases(&mut list);
+    list.write(&folder.join("replay_redraw"))
 }
 
 /// One case a line, one answer a line.

@@ -3,6 +3,7 @@
 
 mod against;
 mod arena;
+mod beside;
 mod check;
 mod cm;
 mod cuts;
@@ -39,10 +40,12 @@ const USAGE: &str = "usage: compare self SEED N
        compare layout [SEED CALLS]
        compare cut [SEED CUTS]
        compare draw [SEED TABLES]
+       compare beside [SEED N]
        compare speed [WORD]
        compare listing
        compare cells
-       compare redraw";
+       compare redraw
+       compare page [--widths]";
 
 fn main() -> ExitCode {
     let arguments: Vec<String> = std::env::args().skip(1).collect();
@@ -68,11 +71,14 @@ fn run(words: &[&str]) -> Option<io::Result<bool>> {
         ["layout"] => Some(library::linked().map(|()| against::run(against::SEED, against::CALLS))),
         ["cut"] => Some(library::linked().map(|()| cuts::run(cuts::SEED, cuts::CUTS))),
         ["draw"] => Some(library::linked().map(|()| draws::run(draws::SEED, draws::TABLES))),
+        ["beside"] => Some(library::linked().map(|()| beside::run(beside::SEED, beside::N))),
         ["speed"] => Some(library::linked().map(|()| speed::run(""))),
         ["speed", word] => Some(library::linked().map(|()| speed::run(word))),
         ["listing"] => Some(print::listing().map(|()| true)),
         ["cells"] => Some(print::cells().map(|()| true)),
         ["redraw"] => Some(print::redraw().map(|()| true)),
+        ["page"] => Some(print::page(false).map(|()| true)),
+        ["page", "--widths"] => Some(print::page(true).map(|()| true)),
         ["equations", seed, n, folder] => {
             let (seed, n) = (seed.parse().ok()?, n.parse().ok()?);
             Some(equations::write(seed, n, Path::new(folder)).map(|()| true))
@@ -86,6 +92,7 @@ fn run(words: &[&str]) -> Option<io::Result<bool>> {
                 "layout" => Some(library::linked().map(|()| against::run(seed, n))),
                 "cut" => Some(library::linked().map(|()| cuts::run(seed, n))),
                 "draw" => Some(library::linked().map(|()| draws::run(seed, n))),
+                "beside" => Some(library::linked().map(|()| beside::run(seed, n))),
                 _ => None,
             }
         }

@@ -7,6 +7,7 @@ use crate::given;
 use crate::make::{self, Rng, edge};
 use crate::paper::cut::{self, Line};
 use crate::paper::layout::{self, Layout, Space};
+use crate::paper::page::{self, PageTable};
 use crate::paper::sheet::Sheet;
 use crate::paper::table::Table;
 use crate::paper::{Refusal, listing, redraw};
@@ -96,6 +97,59 @@ pub fn redraw() -> io::Result<()> {
         Err(refusal) => refused(refusal).into_bytes(),
     };
     io::stdout().lock().write_all(&printed)
+}
+
+/// The page of the drawing on standard input, its cells' lines escaped; an
+/// accepted one from the Rust's layout, cut lines and page.
+pub fn page(widths: bool) -> io::Result<()> {
+    let mut input = vec![];
+    io::stdin().lock().read_to_end(&mut input)?;
+    let sheet = listing::sheet_of(&input);
+    let paged =
+        cut::read_table(&sheet).and_then(|table| page::page(&escaped(&table), widths, usize::MAX));
+    let printed = match paged {
+        Ok(page) => {
+            let rust = given::page(&escaped(&given::table(&sheet).unwrap()), widths);
+            assert_eq!(rust, page);
+            rust
+        }
+        Err(refusal) => refused(refusal).into_bytes(),
+    };
+    io::stdout().lock().write_all(&printed)
+}
+
+/// A table for the page, its cells' lines escaped and parted by line breaks.
+fn escaped(table: &Table) -> PageTable {
+    let mut lines = table.all_lines().into_iter();
+    let inner: Vec<Vec<u8>> = (table.places.iter())
+        .map(|p| {
+            let own: Vec<Vec<u8>> = lines.by_ref().take(p.lines).map(escape).collect();
+            own.join(&b"<br />\n"[..])
+        })
+        .collect();
+    let lengths: Vec<usize> = inner.iter().map(Vec::len).collect();
+    PageTable {
+        columns: table.columns,
+        rows: table.rows,
+        cells: table.cells,
+        bytes: lengths.iter().sum(),
+        alignments: table.alignments.clone(),
+        widths: table.widths.clone(),
+        sections: table.sections.clone(),
+        places: table.places.clone(),
+        lengths,
+        inner: inner.concat(),
+    }
+}
+
+fn escape(line: &[u8]) -> Vec<u8> {
+    let name = |b: &u8| match b {
+        b'&' => b"&amp;".to_vec(),
+        b'<' => b"&lt;".to_vec(),
+        b'>' => b"&gt;".to_vec(),
+        _ => vec![*b],
+    };
+    line.iter().flat_map(name).collect()
 }
 
 pub fn sheets(seed: u64, n: usize) -> io::Result<()> {

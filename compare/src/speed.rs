@@ -1,7 +1,8 @@
 //! `compare speed`: the layout call beside the Rust's `layout`, the table call
-//! beside the Rust's layout and fragments, and the redraw calls beside its
-//! drawing, on the same inputs, in turns.
+//! beside the Rust's layout and fragments, the redraw calls beside its drawing,
+//! and the calls beside the round trip, on the same inputs, in turns.
 
+mod beside;
 mod inputs;
 mod redraws;
 mod tables;
@@ -41,6 +42,7 @@ pub fn run(word: &str) -> bool {
         }
     }
     redraws::run(word);
+    beside::run(word);
     true
 }
 

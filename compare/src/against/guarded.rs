@@ -7,6 +7,7 @@ use crate::paper::sheet::Sheet;
 const GUARDS: usize = 16;
 pub const GUARD: u8 = 0xA5;
 pub const WIDE_GUARD: u16 = 0xA5C3;
+pub const WIDEST_GUARD: u32 = 0xA5C3_69B7;
 
 /// Lengths of the working space (glyphs, offsets, down, right, rects) and of
 /// the output arrays (columns, rows, cells, ranges).
@@ -42,6 +43,17 @@ impl<T: Copy + PartialEq> Guarded<T> {
 
     pub fn entries(&mut self, length: usize) -> &mut [T] {
         &mut self.whole[GUARDS..GUARDS + length]
+    }
+
+    /// Lends an input.
+    pub fn put(&mut self, entries: &[T]) {
+        self.lend(entries.len());
+        self.entries(entries.len()).copy_from_slice(entries);
+    }
+
+    /// Whether the input is as it was.
+    pub fn holds(&mut self, entries: &[T]) -> bool {
+        self.guards_kept(entries.len()) && self.entries(entries.len()) == entries
     }
 
     pub fn guards_kept(&self, length: usize) -> bool {
@@ -90,10 +102,7 @@ impl Buffers {
     pub fn call(&mut self, sheet: &Sheet, lengths: Lengths) -> LayoutReply {
         put_numbers(&mut self.lengths, &sheet.lengths);
         put_numbers(&mut self.columns, &sheet.columns);
-        self.text.lend(sheet.text.len());
-        self.text
-            .entries(sheet.text.len())
-            .copy_from_slice(&sheet.text);
+        self.text.put(&sheet.text);
 
         let [glyphs, offsets, down, right, rects] = lengths.space;
         self.glyphs.lend(glyphs);
@@ -146,8 +155,7 @@ impl Buffers {
         if !same_numbers(&mut self.columns, &sheet.columns) {
             return Some("line columns");
         }
-        let bytes = sheet.text.len();
-        if !self.text.guards_kept(bytes) || self.text.entries(bytes) != sheet.text {
+        if !self.text.holds(&sheet.text) {
             return Some("text");
         }
         let [glyphs, offsets, down, right, rects] = lengths.space;

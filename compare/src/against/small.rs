@@ -6,7 +6,7 @@ type Signs = &'static [&'static [u8]];
 
 /// A first line, then `lines` lines of `width` signs each: the first and the
 /// last from `sides`, the others from `inner`.
-pub struct Family {
+struct Family {
     first: &'static [&'static [u8]],
     lines: usize,
     width: usize,
@@ -49,7 +49,25 @@ const WITH_RULES: Signs = &[b"+", b"-", b"|", b"=", b" "];
 const WHOLE: Signs = &[b"+-+", b"+=+", b"| |", b"+:+", b"+++"];
 const NO_FIRST: &[&[u8]] = &[];
 
-pub fn families() -> Vec<Family> {
+/// How many there are in all.
+pub fn count() -> usize {
+    families().iter().map(Family::count).sum()
+}
+
+/// One in `step` of all.
+pub fn evenly(step: usize, mut each: impl FnMut(&Sheet)) {
+    let mut next = 0;
+    let mut before = 0;
+    for family in families() {
+        while next - before < family.count() {
+            each(&family.sheet(next - before));
+            next += step;
+        }
+        before += family.count();
+    }
+}
+
+fn families() -> Vec<Family> {
     let family = |first, lines, width, sides, inner| Family {
         first,
         lines,
@@ -81,12 +99,12 @@ impl Family {
         }
     }
 
-    pub fn count(&self) -> usize {
+    fn count(&self) -> usize {
         self.first.len().max(1) * self.line_count().pow(self.lines as u32)
     }
 
     /// Drawing `number` of the family, at column 0.
-    pub fn sheet(&self, mut number: usize) -> Sheet {
+    fn sheet(&self, mut number: usize) -> Sheet {
         let mut pick = |signs: &'static [&'static [u8]]| {
             let sign = signs[number % signs.len()];
             number /= signs.len();

@@ -83,7 +83,7 @@ fn find_and_remap(rng: &mut Rng, tally: &mut Tally) {
         tally.count("find", &answer);
         if let Ok(paper) = answer {
             let rust = grid_table::find_line_ends(&register, &[(line, column)])[0];
-            if paper != rust {
+            if [paper; 2] != rust {
                 tally.differ("find", &(&register, line, column), &paper, &rust);
             }
         }

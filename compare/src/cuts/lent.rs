@@ -34,15 +34,13 @@ impl Inputs {
     pub fn drawing(&mut self, sheet: &Sheet) -> Drawing<'_> {
         put_numbers(&mut self.lengths, &sheet.lengths);
         put_numbers(&mut self.columns, &sheet.columns);
-        let bytes = sheet.text.len();
-        self.text.lend(bytes);
-        self.text.entries(bytes).copy_from_slice(&sheet.text);
+        self.text.put(&sheet.text);
         Drawing {
             lines: sheet.lines,
             bytes: sheet.bytes,
             lengths: self.lengths.entries(sheet.lengths.len()),
             columns: self.columns.entries(sheet.columns.len()),
-            text: self.text.entries(bytes),
+            text: self.text.entries(sheet.text.len()),
         }
     }
 
@@ -54,11 +52,7 @@ impl Inputs {
         if !same_numbers(&mut self.columns, &sheet.columns) {
             return Some("line columns");
         }
-        let bytes = sheet.text.len();
-        if !self.text.guards_kept(bytes) || self.text.entries(bytes) != sheet.text {
-            return Some("text");
-        }
-        None
+        (!self.text.holds(&sheet.text)).then_some("text")
     }
 }
 

@@ -21,15 +21,6 @@ fn wide() -> Guarded<u16> {
     Guarded::new(WIDE_GUARD)
 }
 
-fn put<T: Copy + PartialEq>(array: &mut Guarded<T>, entries: &[T]) {
-    array.lend(entries.len());
-    array.entries(entries.len()).copy_from_slice(entries);
-}
-
-fn holds<T: Copy + PartialEq>(array: &mut Guarded<T>, entries: &[T]) -> bool {
-    array.guards_kept(entries.len()) && array.entries(entries.len()) == entries
-}
-
 /// The arrays of a table: one that is handed in, or the one between reading
 /// and redraw.
 pub struct TableArrays {
@@ -52,11 +43,11 @@ impl TableArrays {
     }
 
     pub fn input(&mut self, flat: &Flat) -> FlatTable<'_> {
-        put(&mut self.columns, &flat.columns);
-        put(&mut self.sections, &flat.sections);
-        put(&mut self.cells, &flat.cells);
-        put(&mut self.lengths, &flat.lengths);
-        put(&mut self.text, &flat.text);
+        self.columns.put(&flat.columns);
+        self.sections.put(&flat.sections);
+        self.cells.put(&flat.cells);
+        self.lengths.put(&flat.lengths);
+        self.text.put(&flat.text);
         FlatTable {
             sizes: flat.sizes,
             columns: self.columns.entries(flat.columns.len()),
@@ -70,11 +61,11 @@ impl TableArrays {
     /// The first array of a table handed in that is not as it was.
     pub fn input_changed(&mut self, flat: &Flat) -> Option<&'static str> {
         let kept = [
-            holds(&mut self.columns, &flat.columns),
-            holds(&mut self.sections, &flat.sections),
-            holds(&mut self.cells, &flat.cells),
-            holds(&mut self.lengths, &flat.lengths),
-            holds(&mut self.text, &flat.text),
+            self.columns.holds(&flat.columns),
+            self.sections.holds(&flat.sections),
+            self.cells.holds(&flat.cells),
+            self.lengths.holds(&flat.lengths),
+            self.text.holds(&flat.text),
         ];
         kept.iter().position(|&kept| !kept).map(|i| TABLE_NAMES[i])
     }

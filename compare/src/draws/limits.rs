@@ -287,7 +287,7 @@ fn wrap(rng: &mut Rng, flat: &mut Flat) {
     }
 }
 
-fn change_length<T: Copy + Default>(rng: &mut Rng, array: &mut Vec<T>) {
+pub fn change_length<T: Copy + Default>(rng: &mut Rng, array: &mut Vec<T>) {
     let changed = match rng.below(4) {
         0 => array.len().saturating_sub(1),
         1 => array.len() + 1,
@@ -298,7 +298,7 @@ fn change_length<T: Copy + Default>(rng: &mut Rng, array: &mut Vec<T>) {
 }
 
 /// Sets one entry: of each `step` entries, the one at `offset`.
-fn set<T: Copy>(rng: &mut Rng, array: &mut [T], (step, offset): (usize, usize), to: &[T]) {
+pub fn set<T: Copy>(rng: &mut Rng, array: &mut [T], (step, offset): (usize, usize), to: &[T]) {
     if array.len() >= step {
         let i = rng.below(array.len() / step) * step + offset;
         array[i] = rng.pick(to);

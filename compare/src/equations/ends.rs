@@ -60,7 +60,7 @@ fn case(rng: &mut Rng, i: usize) -> Case {
     let (line, column) = made.asked(rng);
     let found = ends::find(&held, line, column).inspect(|&found| {
         let rust = grid_table::find_line_ends(&held, &[(line, column)])[0];
-        assert_eq!(rust, found);
+        assert_eq!(rust, [found; 2]);
     });
     let fragments = made.fragments(rng);
     let moved = made.end(rng, 4);

@@ -4,16 +4,15 @@ use super::antt::{Case, Outputs, bytes, list, numbers, record};
 use crate::given;
 use crate::make::{self, Rng};
 use crate::paper::page::{self, PageTable};
-use crate::paper::refuse;
 
 pub const HEAD: &str = "\
 use mathlib.Core.Path.{_≡_, refl}
 use mathlib.Core.Bool.{true, false}
 use mathlib.Core.List.{List, [], _∷_}
-use Prim.Native.Nat.{ℕ, _-_}
+use Prim.Native.Nat.{ℕ}
 use lib.ListN.{replicate}
 use Rattle.grid.specs.Answer.{accept, refuse}
-use Rattle.html.specs.PageCall.{PageSizes, PageArrays, pageSpace, pageAnswer, pageAfterwards}
+use Rattle.html.specs.PageCall.{PageSizes, PageArrays, pageAnswer, pageAfterwards}
 use Rattle.html.specs.Computing.{rendering}
 ";
 
@@ -39,17 +38,12 @@ fn cells(table: &PageTable) -> Vec<usize> {
 
 fn case(rng: &mut Rng, i: usize, table: &PageTable) -> Case {
     let widths = rng.once_in(2);
-    let mut answer = page::page(table, widths, usize::MAX).inspect(|page| {
+    let answer = page::page(table, widths, usize::MAX).inspect(|page| {
         // With a total of 0 the Rust prints NaN.
         let total: usize = table.widths.iter().sum();
         assert!(widths && total == 0 || *page == given::page(table, widths));
     });
     let mut case = Case::new("rendering");
-    let mut space = "pageSpace";
-    if rng.once_in(16) {
-        space = "(pageSpace - 1)";
-        answer = refuse(13, 0);
-    }
     let sizes = [table.columns, table.rows, table.cells, table.bytes];
     let names = ["columns", "rows", "cells", "bytes"];
     case.name(&format!("sizes{i}"), "PageSizes", &numbers(&names, &sizes));
@@ -69,7 +63,7 @@ fn case(rng: &mut Rng, i: usize, table: &PageTable) -> Case {
         (page.len().to_string(), [page])
     });
     let outputs = Outputs::new(rng, [""], expected);
-    let given = format!("{space} {widths} sizes{i} table{i}");
+    let given = format!("{widths} sizes{i} table{i}");
     case.call(&format!("page-{i}"), "page", &given, &outputs);
     case
 }

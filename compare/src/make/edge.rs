@@ -140,10 +140,10 @@ pub fn sheets() -> Vec<(Sheet, Listed)> {
 /// The drawn lines, or refusal number and place.
 pub type Drawn = Result<&'static [&'static str], (usize, usize)>;
 
-type CellText<'t> = ((usize, usize, usize, usize), &'t [&'t str]);
+pub type CellText<'t> = ((usize, usize, usize, usize), &'t [&'t str]);
 
 /// Columns as alignment and width, cells as row, column, spans and lines.
-fn table(columns: &[(usize, usize)], sections: &[usize], cells: &[CellText<'_>]) -> Table {
+pub fn table(columns: &[(usize, usize)], sections: &[usize], cells: &[CellText<'_>]) -> Table {
     let mut table = Table {
         columns: columns.len(),
         rows: sections.len(),
@@ -168,7 +168,7 @@ fn table(columns: &[(usize, usize)], sections: &[usize], cells: &[CellText<'_>])
 }
 
 /// Rows a, b; lines over both columns; c, d; declared widths 1.
-fn three_rows(middle: &[&str]) -> Table {
+pub fn three_rows(middle: &[&str]) -> Table {
     table(
         &[(NONE, 1), (NONE, 1)],
         &[BODY; 3],

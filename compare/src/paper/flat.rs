@@ -70,7 +70,7 @@ impl Flat {
     }
 }
 
-fn place(cell: [u16; 5]) -> Place {
+pub fn place(cell: [u16; 5]) -> Place {
     let [row, column, colspan, rowspan, lines] = cell.map(usize::from);
     Place {
         row,

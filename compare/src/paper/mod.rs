@@ -5,6 +5,7 @@ pub mod cut;
 pub mod draw;
 pub mod ends;
 pub mod flat;
+pub mod flat_page;
 pub mod layout;
 pub mod limits;
 pub mod listing;

@@ -20,6 +20,20 @@ pub struct PageTable {
     pub inner: Vec<u8>,
 }
 
+impl PageTable {
+    /// Each cell's inner bytes, once the lengths are known to agree.
+    pub fn inner_of_cells(&self) -> Vec<&[u8]> {
+        let mut rest = &self.inner[..];
+        let mut cells = vec![];
+        for &length in &self.lengths {
+            let (inner, after) = rest.split_at(length);
+            cells.push(inner);
+            rest = after;
+        }
+        cells
+    }
+}
+
 pub fn page(table: &PageTable, widths: bool, space: usize) -> Answer<Vec<u8>> {
     demand(table.alignments.len() == table.columns)?;
     demand(table.widths.len() == table.columns)?;

@@ -223,30 +223,62 @@ mod doors {
         (text.clone(), start.line, start.column, *column)
     }
 
-    /// `place_cell_line_ends` over ends (line, start, eol): the eol found at
-    /// each asked line and column.
-    pub fn find_line_ends(
+    /// Hands over a parser that holds these ends (line, start, eol), and the
+    /// document: a break of each of the kinds at each asked line and column.
+    fn with_breaks<T>(
         ends: &[(usize, usize, usize)],
         asked: &[(usize, usize)],
-    ) -> Vec<Option<usize>> {
+        kinds: &[fn() -> NodeValue],
+        f: impl FnOnce(&mut Parser<'_, '_, '_, '_>, Node<'_>) -> T,
+    ) -> T {
         let arena = Arena::new();
         let options = Options::default();
         let root = arena.alloc(NodeValue::Document.into());
         for &(line, column) in asked {
-            let place = (line, column, 0, 0).into();
-            let ast = Ast::new_with_sourcepos(NodeValue::SoftBreak, place);
-            root.append(arena.alloc(ast.into()));
+            for kind in kinds {
+                let ast = Ast::new_with_sourcepos(kind(), (line, column, 0, 0).into());
+                root.append(arena.alloc(ast.into()));
+            }
         }
         let mut parser = Parser::new(&arena, root, &options, None, &Delimiters);
         for &(line, start, eol) in ends {
             parser.cell_line_ends.push(CellLineEnd { line, start, eol });
         }
-        parser.place_cell_line_ends();
-        // An end that is found sets the break's own end, which was line 0.
-        root.children()
-            .map(|node| node.data().sourcepos)
-            .map(|place| (place.end.line != 0).then_some(place.start.column))
-            .collect()
+        f(&mut parser, root)
+    }
+
+    /// `place_cell_line_ends`: the eol found at each asked line and column, by
+    /// a soft break there and by a hard one.
+    pub fn find_line_ends(
+        ends: &[(usize, usize, usize)],
+        asked: &[(usize, usize)],
+    ) -> Vec<[Option<usize>; 2]> {
+        let kinds: [fn() -> NodeValue; 2] = [|| NodeValue::SoftBreak, || NodeValue::LineBreak];
+        with_breaks(ends, asked, &kinds, |parser, root| {
+            parser.place_cell_line_ends();
+            let places: Vec<Sourcepos> = root.children().map(|n| n.data().sourcepos).collect();
+            let (pairs, _) = places.as_chunks::<2>();
+            // An end that is found sets the break's own end, which was line 0.
+            let found = |[soft, hard]: &[Sourcepos; 2]| {
+                [
+                    (soft.end.line != 0).then_some(soft.start.column),
+                    (hard.end.line != 0).then_some(hard.end.column + 1),
+                ]
+            };
+            pairs.iter().map(found).collect()
+        })
+    }
+
+    /// Hands over `place_cell_line_ends` with hard breaks at the asked lines and
+    /// columns, which finds the same each time, since it leaves their starts.
+    pub fn with_line_ends<T>(
+        ends: &[(usize, usize, usize)],
+        asked: &[(usize, usize)],
+        f: impl FnOnce(&mut dyn FnMut()) -> T,
+    ) -> T {
+        with_breaks(ends, asked, &[|| NodeValue::LineBreak], |parser, _| {
+            f(&mut || parser.place_cell_line_ends())
+        })
     }
 
     /// `CellLineEnd::remap` over fragments given as line and byte.

@@ -120,7 +120,7 @@ fn price_list(rows: usize, name: &str) -> Table {
     table
 }
 
-fn even(rows: usize, columns: usize, width: usize, text: &str) -> Table {
+pub fn even(rows: usize, columns: usize, width: usize, text: &str) -> Table {
     let mut table = grid(rows, columns, width);
     let lines: &[&str] = if text.is_empty() { &[] } else { &[text] };
     for row in 0..rows {

@@ -2,9 +2,10 @@
 use characters::known::span_in_set;
 use text::ByteAt;
 use text::Column;
+use utf8::columns::added_columns;
+use utf8::columns::has_tab;
 use utf8::known::Known;
 use utf8::known::known_character;
-use utf8::line_text::is_plain;
 ghost use Prim.Native.Nat.{_≤_};
 ghost use mathlib.Core.Path.{_≡_};
 ghost use mathlib.Core.Bool.{true};
@@ -28,13 +29,13 @@ fn columns_decoded(line: &[u8], column: Column) -> usize
     n
 }
 
-// In a plain line each byte is a column.
+// Where there is no tab, as many as the bytes add.
 pub fn columns(line: &[u8], column: Column) -> usize
     requires { ⌜ (column .0 ≤ 1024) × (length (now line) ≤ 512) × (wellFormed (now line) ≡ true) ⌝ }
     ensures { λ r. ⌜ r ≡ columnsFrom (column .0) (charIndices (now (line .entry))) ⌝ }
 {
-    if is_plain(line) {
-        return line.len();
+    if has_tab(line) {
+        return columns_decoded(line, column);
     }
-    columns_decoded(line, column)
+    added_columns(line)
 }

@@ -10,7 +10,7 @@ use writer::put;
 ghost use Prim.Native.Nat.{_+_, _-_, _≤_, _<_};
 ghost use mathlib.Core.Path.{_≡_};
 ghost use mathlib.Core.Bool.{true};
-ghost use mathlib.Core.List.{List, [], _∷_, _++_};
+ghost use mathlib.Core.List.{List, _∷_, _++_};
 ghost use lib.ListN.{length, getD, replicate};
 ghost use Rattle.text.specs.Characters.{space};
 ghost use Rattle.text.specs.Columns.{columnsFrom};

@@ -1,11 +1,6 @@
 // The lines of a table's text: where each starts and ends, and its columns.
-use characters::known::span_in_set;
 use rule_lines::trim::trim_end;
-use text::ByteAt;
-use text::Column;
-use utf8::known::Known;
-use utf8::known::known_character;
-use utf8::line_text::is_plain;
+use utf8::columns::added_columns;
 ghost use Prim.Native.Nat.{_*_, _≤_};
 ghost use mathlib.Core.Path.{_≡_};
 ghost use mathlib.Core.Bool.{true};
@@ -32,28 +27,10 @@ pub fn trim_lines(lengths: &[u16], text: &[u8], starts: &mut [u16], ends: &mut [
     }
 }
 
-// line_columns, character by character.
-fn decoded_columns(line: &[u8]) -> usize
-    requires { ⌜ (length (now line) ≤ 512) × (wellFormed (now line) ≡ true) ⌝ }
-    ensures { λ r. ⌜ (r ≡ lineColumns (now (line .entry))) × (r ≤ 4 * length (now (line .entry))) ⌝ }
-{
-    let mut columns = 0;
-    let mut at = 0;
-    while at < line.len() {
-        let Known { value, size } = known_character(line, ByteAt(at));
-        columns += span_in_set(value, Column(0));
-        at += size;
-    }
-    columns
-}
-
-// The columns of a line, a tab counted as 4. In a plain line each byte is a column.
+// The columns of a line, a tab counted as 4.
 pub fn line_columns(line: &[u8]) -> usize
     requires { ⌜ (length (now line) ≤ 512) × (wellFormed (now line) ≡ true) ⌝ }
     ensures { λ r. ⌜ (r ≡ lineColumns (now (line .entry))) × (r ≤ 4 * length (now (line .entry))) ⌝ }
 {
-    if is_plain(line) {
-        return line.len();
-    }
-    decoded_columns(line)
+    added_columns(line)
 }

@@ -49,7 +49,7 @@ pub fn put_slots(
     }
 }
 
-fn widened(b: u8) -> u32
+pub fn widened(b: u8) -> u32
     ensures { λ r. ⌜ r ≡ b ⌝ }
 {
     b as u32

@@ -116,6 +116,13 @@ set-past-marks c low =
       go true = refl
       go false = refl
 
+-- past the marks the set begins with characters of two columns
+pub set-wide : (c : ℕ) → 0x370 ≤ c → inSet c ≡ true → 0x3041 ≤ c
+set-wide c low in-set = go (ltb c 0x3041) refl where
+  go : (t : Bool) → ltb c 0x3041 ≡ t → 0x3041 ≤ c
+  go true e = absurd (true-not-false (sym in-set ∙ sym (set-past-marks c low) ∙ two-below c (ltb-true c 0x3041 e)))
+  go false e = ltb-false c 0x3041 e
+
 pub set-of-two : (c : ℕ) (n a b : Bool) → c < 0x3041 → n ≡ within 0x300 0x36f c → a ≡ within 0xa1 0xac c → b ≡ within 0xae 0x17f c → (n || (a || b)) ≡ (leb 0x80 c && inSet c)
 set-of-two c n a b high e f g = rw (e, f, g) (go (ltb c 0x80) refl) where
   go : (t : Bool) → ltb c 0x80 ≡ t → (within 0x300 0x36f c || (within 0xa1 0xac c || within 0xae 0x17f c)) ≡ (leb 0x80 c && inSet c)

@@ -16,7 +16,7 @@ use Rattle.text.specs.declared.Decoded.the-variants.{Character, Refused}
 use Rattle.text.specs.Utf8.{twoBytes, threeBytes, character, wellFormed}
 use Rattle.text.proofs.Utf8Laws.{Made, of-bytes, well-not}
 
-between : (low high b : ℕ) → within low high b ≡ true → (low ≤ b) × (b ≤ high)
+pub between : (low high b : ℕ) → within low high b ≡ true → (low ≤ b) × (b ≤ high)
 between low high b e = (within-low low high b e, within-high low high b e)
 
 module _ (s : List ℕ) (at : ℕ) (inside : at < length s) (well : wellFormed (drop at s) ≡ true) where

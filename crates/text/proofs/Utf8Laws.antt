@@ -103,14 +103,14 @@ known true w n v k e = (refl, cc, cc)
 known false w n v k e = absurd (let z : _≡_ {A = ℕ} 0 1 = cc in omega arith)
 
 -- of the first three bytes and the character that they make: the first one's range says how many
-abbrev OfOne : ℕ → ℕ → ℕ → Type 0
+abbrev pub OfOne : ℕ → ℕ → ℕ → Type 0
 OfOne a v k = (k ≡ 1) × (a ≡ v) × (a < 0x80)
 
-abbrev OfTwo : ℕ → ℕ → ℕ → ℕ → Type 0
+abbrev pub OfTwo : ℕ → ℕ → ℕ → ℕ → Type 0
 OfTwo a b v k = (k ≡ 2) × (twoBytes a b ≡ v) × (within 0xc0 0xdf a ≡ true) × (continues b ≡ true) × (0x80 ≤ v)
 
-abbrev OfThree : ℕ → ℕ → ℕ → ℕ → ℕ → Type 0
-OfThree a b c v k = (k ≡ 3) × (threeBytes a b c ≡ v) × (within 0xe0 0xef a ≡ true) × (continues b ≡ true) × (continues c ≡ true) × (0x80 ≤ v)
+abbrev pub OfThree : ℕ → ℕ → ℕ → ℕ → ℕ → Type 0
+OfThree a b c v k = (k ≡ 3) × (threeBytes a b c ≡ v) × (within 0xe0 0xef a ≡ true) × (continues b ≡ true) × (continues c ≡ true) × (0x800 ≤ v)
 
 pub record Made (a b c v k : ℕ) : Type 0 where
   pub in-set : inSet v ≡ true
@@ -184,6 +184,9 @@ module _ (s : List ℕ) (v k : ℕ) (e : character s ≡ Character v k) where
 
   pub character-some-byte : 1 ≤ k
   character-some-byte = ⊎-elim (λ h. omega arith) (⊎-elim (λ h. omega arith) (λ h. omega arith)) (of-bytes .bytes)
+
+  pub character-past-ascii : 2 ≤ k → 0x80 ≤ v
+  character-past-ascii many = ⊎-elim (λ h. absurd (omega arith)) (⊎-elim (λ h. h .4) (λ h. omega arith)) (of-bytes .bytes)
 
   pub character-fits : k ≤ length s
   character-fits =

@@ -1,18 +1,19 @@
--- Laws of the columns of a text, character by character, and of a plain one.
+-- Laws of the columns of a text, character by character, and of one without a tab.
 use Prim.Native.Nat.{ℕ, _+_, _*_, _-_, _^_, _≤_, _<_}
-use mathlib.Core.Path.{_≡_, refl, sym, ap, _∙_}
-use mathlib.Core.Bool.{Bool, true}
-use mathlib.Core.List.{List, [], _∷_}
+use mathlib.Core.Path.{_≡_, sym, _∙_}
+use mathlib.Core.Bool.{Bool, true, false}
+use mathlib.Core.List.{List, []}
 use native.Mathlib.Omega.{arith}
 use native.Mathlib.Nat.{add-zero, add-assoc}
 use lib.ListN.{length, drop, drop-of-length-le}
 use Rattle.text.specs.declared.Decoded.the-variants.{Character}
 use Rattle.text.specs.Characters.{span}
-use Rattle.text.specs.Columns.{columnsFrom}
-use Rattle.text.specs.Utf8.{character, charsFrom, charIndices, wellFormed, plain}
+use Rattle.seq.specs.Lists.{any}
+use Rattle.text.specs.Columns.{columnsFrom, isTab, addedColumns}
+use Rattle.text.specs.Utf8.{character, charsFrom, charIndices, wellFormed}
 use Rattle.text.proofs.Utf8Laws.{chars-next, well-next, size-fits}
 use Rattle.text.proofs.CharactersLaws.{span-four-columns-at-most}
-use Rattle.text.proofs.PlainLaws.{plain-first, plain-rest, plain-span}
+use Rattle.text.proofs.ByteColumnsLaws.{addedColumns-from}
 
 -- the characters before `byte` take n columns
 pub record Walked (line : List ℕ) (first byte n : ℕ) : Type 0 where
@@ -57,11 +58,6 @@ module _ (line : List ℕ) (first byte n : ℕ) (so-far : Walked line first byte
     pub bytes-left : length line - (byte + size) < length line - byte
     bytes-left = let (some, fits) = size-fits line byte value size is in omega arith
 
--- in a plain text each byte is a column
-plain-from : (first at : ℕ) (s : List ℕ) → plain s ≡ true → columnsFrom first (charsFrom at 0 s) ≡ length s
-unfolding columnsFrom charsFrom
-plain-from first at [] e = refl
-plain-from first at (b ∷ s) e = rw (plain-first b s e, plain-span first b s e) (ap (λ (k : ℕ). 1 + k) (plain-from (first + 1) (at + 1) s (plain-rest b s e)) ∙ omega arith)
-
-pub plain-columns : (line : List ℕ) (first : ℕ) (t : Bool) → t ≡ plain line → t ≡ true → length line ≡ columnsFrom first (charIndices line)
-plain-columns line first t is taken = sym (plain-from first 0 line (sym is ∙ taken))
+-- where there is no tab, what the bytes add
+pub added-columns : (line : List ℕ) (first n : ℕ) (t : Bool) → wellFormed line ≡ true → t ≡ any isTab line → t ≡ false → n ≡ addedColumns line → n ≡ columnsFrom first (charIndices line)
+added-columns line first n t well is none e = e ∙ addedColumns-from line well first (sym is ∙ none)

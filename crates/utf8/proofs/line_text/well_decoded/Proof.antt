@@ -5,6 +5,7 @@ use borrow.Author.Needs.{needs}
 use lib.ListN.{length, drop}
 use Rattle.text.specs.Utf8.{wellFrom, wellFormed}
 use Rattle.text.proofs.Utf8Laws.{well-on, end-inside, end-fits, fewer-left, ill-formed, well-to-the-end}
+use Rattle.text.proofs.CommonLaws.{sized-on, sized-inside, sized-fits, sized-left}
 use Rattle.utf8.proofs.line_text.well_decoded.Statement.{statement}
 use Rattle.utf8.proofs.line_text.well_decoded.Tie as tie
 
@@ -16,6 +17,9 @@ abbrev μ-loop : tie.MeasureT-loop
 
 loop-holds : tie.Need-loop-holds Inv-loop μ-loop
 loop-holds c = search needs
+
+common-size-requires : tie.Need-common-size-requires Inv-loop μ-loop
+common-size-requires c κs = search needs
 
 decode-requires : tie.Need-decode-requires Inv-loop μ-loop
 decode-requires c κs = search needs
@@ -38,6 +42,15 @@ loop-less c = search (needs, fewer-left)
 loop-again : tie.Need-loop-again Inv-loop μ-loop
 loop-again c = search (needs, end-inside, well-on)
 
+add-at-2 : tie.Need-add-at-2 Inv-loop μ-loop
+add-at-2 c = search (needs, sized-fits)
+
+loop-less-2 : tie.Need-loop-less-2 Inv-loop μ-loop
+loop-less-2 c = search (needs, sized-left)
+
+loop-again-2 : tie.Need-loop-again-2 Inv-loop μ-loop
+loop-again-2 c = search (needs, sized-inside, sized-on)
+
 returns-2 : tie.Need-returns-2 Inv-loop μ-loop
 returns-2 c = search well-to-the-end
 
@@ -48,6 +61,7 @@ well-decoded-spec =
     Inv-loop
     μ-loop
     loop-holds
+    common-size-requires
     decode-requires
     enum-known-size
     enum-told
@@ -55,4 +69,7 @@ well-decoded-spec =
     add-at
     loop-less
     loop-again
+    add-at-2
+    loop-less-2
+    loop-again-2
     returns-2)

@@ -4,13 +4,12 @@ use mathlib.Core.Bool.{Bool, true, false}
 use mathlib.Core.List.{List, [], _∷_, _++_, map, flatMap}
 use lib.ListN.{getD}
 use Rattle.seq.specs.Ascii.{ascii}
-use Rattle.seq.specs.Decimal.{decimal}
 use Rattle.text.specs.Rule.{isRule}
 use Rattle.grid.specs.Answer.{Answer, accept, refuse, andThen}
 use Rattle.grid.specs.Values.{Line, GridTableColumn, TableCell, Table}
 use Rattle.grid.specs.Slots.{dash}
 use Rattle.grid.specs.Read.{readTable}
-use Rattle.grid.specs.Listing.{printed, linesRead, listing}
+use Rattle.grid.specs.Listing.{linesRead, listing, refusedLine}
 use Rattle.grid.specs.declared.TableAlignment.the-variants.{None}
 use Rattle.grid.specs.declared.GridTableSection.the-variants.{Body}
 use Rattle.drawing.specs.Plain.{drawn}
@@ -29,7 +28,7 @@ drawnText lines = flatMap (λ (line : Line). line .text ++ ascii "\n") lines
 
 abbrev pub answerText : Answer (List Line) → List ℕ
 answerText (accept lines) = drawnText lines
-answerText (refuse number place) = printed (ascii "refused" ∷ decimal number ∷ decimal place ∷ [])
+answerText (refuse number place) = refusedLine number place
 
 abbrev pub truthText : Bool → List ℕ
 truthText true = ascii "true"

@@ -19,7 +19,7 @@ use Rattle.text.specs.Characters.{plus, colon}
 use Rattle.text.specs.Rule.{toPlus}
 use Rattle.text.proofs.RuleBytes.{toPlus-of-bytes}
 use Rattle.grid.specs.Values.{Rect, GridTableColumn, Table}
-use Rattle.grid.specs.Slots.{Slot, isPlus, glyphOf, trimmedAt, byteAt}
+use Rattle.grid.specs.Slots.{Slot, isPlus, trimmedAt, byteAt}
 use Rattle.grid.specs.Rectangle.{plusAt}
 use Rattle.grid.specs.Layout.{Between, between, columnLines, alignmentOf, segmentAlignment, alignmentAt, columnsRead}
 use Rattle.grid.specs.declared.TableAlignment.{TableAlignment}

@@ -24,7 +24,7 @@ use Rattle.grid.specs.declared.GridTableSection.{GridTableSection}
 use Rattle.grid.specs.declared.GridTableSection.the-variants.{Body}
 use Rattle.grid.proofs.SkylineLaws.{Inside}
 use Rattle.drawing.specs.GridRules.{isFoot}
-use Rattle.drawing.specs.Sizes.{leastWidth, widths, offsets}
+use Rattle.drawing.specs.Sizes.{leastWidth, widths}
 use Rattle.drawing.specs.Plain.{Box, Canvas, boxOf, ruleLines, canvasAt, canvasOf, canvasWidth, canvasHeight, cornerAt, alignmentRow, nextCorner, hasLeftColon, hasRightColon, drawsColon}
 use Rattle.drawing.proofs.OffsetLaws.{offsets-step}
 use Rattle.drawing.proofs.KeptLaws.{Kept}

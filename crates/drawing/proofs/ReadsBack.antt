@@ -5,7 +5,7 @@ use Prim.Native.Nat.{ℕ, _<_}
 use mathlib.Core.Path.{_≡_, refl, sym, ap, _∙_}
 use mathlib.Core.Bool.{Bool, true, false, not, _&&_, _||_, cond}
 use mathlib.Core.Option.{none}
-use mathlib.Core.List.{List, [], map}
+use mathlib.Core.List.{List, map}
 use native.Mathlib.Omega.{arith}
 use lib.Dec.{eqb, ltb}
 use lib.ListN.{length, getD, length-map}
@@ -28,7 +28,7 @@ use Rattle.grid.specs.Same.{normal, Same}
 use Rattle.grid.specs.declared.TableAlignment.{TableAlignment}
 use Rattle.grid.specs.declared.TableAlignment.the-variants.{None, Left, Right, Center}
 use Rattle.grid.proofs.SlotLaws.{row-at, no-wrong-row}
-use Rattle.drawing.specs.Plain.{Canvas, canvasOf, canvasAt, canvasHeight, cornerAt, alignmentRow, hasLeftColon, hasRightColon, columnAlignment, leftColon, rightColon, canvasLines}
+use Rattle.drawing.specs.Plain.{Canvas, canvasOf, canvasAt, canvasHeight, cornerAt, alignmentRow, hasLeftColon, hasRightColon, columnAlignment, leftColon, rightColon}
 use Rattle.drawing.specs.Redraw.{footWithoutHead, insideSegment, colonsMisplaced, misaligned, drawnTooLarge, splitCell}
 use Rattle.drawing.proofs.LimitLaws.{drawnTooLarge-parts}
 use Rattle.drawing.proofs.RowLaws.{drawnLine-text, flat-slots, flat-spans}

@@ -9,7 +9,7 @@ use Rattle.grid.specs.Answer.{Answer, accept, refuse}
 use Rattle.grid.specs.Values.{TableCell, Table}
 use Rattle.grid.specs.Flat.{TableSizes, tableSizes}
 use Rattle.grid.specs.Read.{readTable}
-use Rattle.grid.specs.Listing.{lineFeed, linesRead, printed}
+use Rattle.grid.specs.Listing.{lineFeed, linesRead, printed, refusedLine}
 
 -- table, columns, rows, cells, lines, bytes
 abbrev pub sizesLine : TableSizes → List ℕ
@@ -26,10 +26,10 @@ cellListed c =
     printed (ascii "cell" ∷ decimal (c .row) ∷ decimal (c .column) ∷ decimal (c .colspan) ∷ decimal (c .rowspan) ∷ decimal (length (c .lines)) ∷ [])
     ++ flatMap textLine (c .lines)
 
--- a refusal as in the listing: refused, number, place
+-- a refusal as in the listing
 abbrev pub cellsListed : Answer Table → List ℕ
 cellsListed (accept t) = sizesLine (tableSizes t) ++ flatMap cellListed (t .cells)
-cellsListed (refuse number place) = printed (ascii "refused" ∷ decimal number ∷ decimal place ∷ [])
+cellsListed (refuse number place) = refusedLine number place
 
 unfoldable pub cellListing : List ℕ → List ℕ
 cellListing input = cellsListed (readTable (linesRead input))

@@ -73,10 +73,13 @@ cellLine c =
     ∷ decimal (length (c .content)) ∷ [])
 
 -- "A refusal prints `refused`, number, place."
+abbrev pub refusedLine : ℕ → ℕ → List ℕ
+refusedLine number place = printed (ascii "refused" ∷ decimal number ∷ decimal place ∷ [])
+
 abbrev pub listed : List Line → Answer Layout → List ℕ
 listed lines (accept l) =
     gridLine lines l ++ numbered columnLine 0 (l .columns) ++ numbered rowLine 0 (l .rows) ++ flatMap cellLine (l .cells)
-listed lines (refuse number place) = printed (ascii "refused" ∷ decimal number ∷ decimal place ∷ [])
+listed lines (refuse number place) = refusedLine number place
 
 unfoldable pub listing : List ℕ → List ℕ
 listing input = listed (linesRead input) (readLayout (linesRead input))

@@ -4,12 +4,10 @@ use mathlib.Core.Bool.{Bool}
 use mathlib.Core.List.{List, [], _∷_, map}
 use lib.ListN.{length}
 use Rattle.seq.specs.Lists.{sum}
-use Rattle.seq.specs.Ascii.{ascii}
-use Rattle.seq.specs.Decimal.{decimal}
 use Rattle.grid.specs.Answer.{Answer, accept, refuse, andThen}
 use Rattle.grid.specs.Values.{TableCell, Table}
 use Rattle.grid.specs.Read.{readTable}
-use Rattle.grid.specs.Listing.{linesRead, printed}
+use Rattle.grid.specs.Listing.{linesRead, refusedLine}
 use Rattle.html.specs.PageCall.{PageSizes, pageBytes}
 use Rattle.html.specs.Escaping.{innerOf}
 
@@ -31,7 +29,7 @@ escapedSizes t =
 
 abbrev pub pageListed : Answer (List ℕ) → List ℕ
 pageListed (accept bytes) = bytes
-pageListed (refuse number place) = printed (ascii "refused" ∷ decimal number ∷ decimal place ∷ [])
+pageListed (refuse number place) = refusedLine number place
 
 unfoldable pub pageListing : Bool → List ℕ → List ℕ
 pageListing widths input = pageListed (andThen (readTable (linesRead input)) (λ t. pageBytes widths (escapedSizes t) (escapedTable t)))

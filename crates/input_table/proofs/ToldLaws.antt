@@ -4,7 +4,7 @@ use mathlib.Core.Path.{_≡_, ap, ap₂, sym, _∙_}
 use mathlib.Core.Bool.{false}
 use mathlib.Core.List.{List}
 use native.Mathlib.Omega.{arith}
-use lib.ListN.{length}
+use lib.ListN.{length, length-map}
 use mir.Syntax.{w64}
 use mir.Val.{Fits}
 use borrow.Author.Needs.{fits-under}
@@ -13,7 +13,7 @@ use Rattle.seq.specs.Lists.{sum}
 use Rattle.seq.proofs.FlatMaps.{length-flatMap-sum}
 use Rattle.grid.specs.Answer.{accept, refuse}
 use Rattle.grid.specs.Read.{readTable}
-use Rattle.grid.specs.Flat.{FlatDrawing, TableSizes, TableArrays, splitText, linesOf, tableLines, tableContradicts, tableSizes}
+use Rattle.grid.specs.Flat.{FlatDrawing, TableSizes, TableArrays, splitText, linesOf, tableLines, tableContradicts, tableSizes, tableArrays}
 use Rattle.grid.specs.TableCall.{TableSpace, startsShort, tableSpaceShort, tableAccepts, tableAnswer, tableAfterwards, tableSpaces}
 use Rattle.grid.proofs.ReadLaws.{andThen-accepting}
 use Rattle.grid.proofs.FlatTableLaws.{table-fits}
@@ -64,7 +64,7 @@ module _ (lengths text : List ℕ) (few : length lengths ≤ 128) (whole : sum l
       ap readTable (sym (sheet-lines lengths text)) ∙ sym accepts-all ∙ andThen-accepting (tableAccepts freshSpace freshTable d lent) (λ t. tableSizes t) n p e
 
   held-of : (m : TableSizes) → TableRead freshSpace freshTable d lent m → TableHeld lengths text m (tableTaken m (tableAfterwards freshSpace freshTable d lent))
-  unfolding tableSizes
+  unfolding tableSizes tableArrays
   held-of m r =
       let u = r .table in
       let (_, shape, lines) = tableTooLarge-parts 0 u (read-not-too-large (linesOf d) u (r .read) 0 (omega arith)) in
@@ -79,6 +79,10 @@ module _ (lengths text : List ℕ) (few : length lengths ≤ 128) (whole : sum l
         bytes = omega (arith, l .bytes, as-bytes, ap (λ (m : TableSizes). m .bytes) (r .sizes));
         agree = ap₂ tableContradicts (sym (r .sizes)) (r .taken) ∙ table-fits u;
         read = ap readTable (sym (sheet-lines lengths text)) ∙ r .read ∙ ap accept (sym (taken-apart freshSpace freshTable d lent r));
+        sizes = ap tableSizes (taken-apart freshSpace freshTable d lent r) ∙ r .sizes;
+        lineCount =
+            ap (λ (a : TableArrays). length (a .lengths)) (r .taken) ∙ length-map (tableLines u) length ∙ ap (λ (m : TableSizes). m .lines) (r .sizes);
+        byteCount = ap (λ (a : TableArrays). length (a .text)) (r .taken) ∙ ap (λ (m : TableSizes). m .bytes) (r .sizes);
       }
 
   pub table-told : (r : TableAnswer) (after : TableArrays) → answerOf r ≡ tableAnswer freshSpace freshTable d lent

@@ -3,10 +3,10 @@ use Prim.Native.Nat.{ℕ, _*_, _-_, _≤_}
 use mathlib.Core.Path.{_≡_}
 use mathlib.Core.Bool.{false}
 use mathlib.Core.List.{List}
-use lib.ListN.{take}
+use lib.ListN.{length, take}
 use Rattle.grid.specs.Answer.{accept, refuse}
 use Rattle.grid.specs.Read.{readTable}
-use Rattle.grid.specs.Flat.{splitText, TableSizes, TableArrays, tableContradicts, tableOfArrays}
+use Rattle.grid.specs.Flat.{splitText, TableSizes, TableArrays, tableContradicts, tableOfArrays, tableSizes}
 use Rattle.drawing.specs.RedrawCall.{tableGiven, tableLent}
 use Rattle.table.specs.declared.TableAnswer.{TableAnswer}
 use Rattle.table.specs.declared.TableAnswer.the-variants.{Accepted, Refused}
@@ -27,6 +27,9 @@ pub record TableHeld (lengths text : List ℕ) (s : TableSizes) (t : TableArrays
   pub bytes : s .bytes ≤ 32768
   pub agree : tableContradicts s t ≡ false
   pub read : readTable (linesAt0 (splitText lengths text)) ≡ accept (tableOfArrays s t)
+  pub sizes : tableSizes (tableOfArrays s t) ≡ s
+  pub lineCount : length (t .lengths) ≡ s .lines
+  pub byteCount : length (t .text) ≡ s .bytes
 
 abbrev pub TableTold : List ℕ → List ℕ → TableArrays → TableAnswer → Type 0
 TableTold lengths text after (Accepted across tall count kept weight) =

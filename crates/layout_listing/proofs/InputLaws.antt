@@ -7,8 +7,7 @@ use native.Mathlib.Omega.{arith}
 use lib.ListN.{length, take, length-append}
 use Rattle.grid.specs.Read.{drawingTooLarge}
 use Rattle.grid.specs.Flat.{splitText}
-use Rattle.grid.specs.Listing.{linesRead, listing}
-use Rattle.printing.specs.Printing.{refusedLine}
+use Rattle.grid.specs.Listing.{linesRead, listing, refusedLine}
 use Rattle.input_lines.specs.Splitting.{Splits}
 use Rattle.input_lines.specs.declared.Split.{Split}
 use Rattle.input_lines.specs.declared.Split.the-variants.{Lines, TooLarge}

@@ -5,10 +5,9 @@ use mathlib.Core.List.{List}
 use lib.ListN.{length}
 use Rattle.grid.specs.Flat.{splitText}
 use Rattle.grid.specs.Read.{readLayout}
-use Rattle.grid.specs.Listing.{listed}
+use Rattle.grid.specs.Listing.{listed, refusedLine}
 use Rattle.layout.specs.declared.LayoutAnswer.{LayoutAnswer}
 use Rattle.layout.specs.declared.LayoutAnswer.the-variants.{Accepted, Refused}
-use Rattle.printing.specs.Printing.{refusedLine}
 use Rattle.layout_listing.specs.Printing.{tablePrinted}
 use Rattle.input_lines.specs.Sheet.{linesAt0}
 

@@ -4,8 +4,8 @@ use mathlib.Core.Path.{_≡_}
 use mathlib.Core.List.{List, [], _∷_, _++_, append-assoc}
 use lib.ListN.{getD}
 use Rattle.seq.specs.Ascii.{ascii}
-use Rattle.grid.specs.Listing.{lineFeed, printed}
-use Rattle.printing.specs.Printing.{Put, Prints, spaced, cellPrinted, refusedLine}
+use Rattle.grid.specs.Listing.{lineFeed, printed, refusedLine}
+use Rattle.printing.specs.Printing.{Put, Prints, spaced, cellPrinted}
 use Rattle.printing.proofs.PutLaws.{put-then, put-as, put-prints}
 
 abbrev cellWord : List ℕ

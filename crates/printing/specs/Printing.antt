@@ -30,6 +30,3 @@ abbrev pub cellPrinted : List ℕ → ℕ → ℕ → List ℕ
 cellPrinted cells i lines =
     printed
     (ascii "cell" ∷ decimal (getD cells (5 * i) 0) ∷ decimal (getD cells (5 * i + 1) 0) ∷ decimal (getD cells (5 * i + 2) 0) ∷ decimal (getD cells (5 * i + 3) 0) ∷ decimal lines ∷ [])
-
-abbrev pub refusedLine : ℕ → ℕ → List ℕ
-refusedLine number place = printed (ascii "refused" ∷ decimal number ∷ decimal place ∷ [])

@@ -5,7 +5,8 @@ ghost use mathlib.Core.Path.{_≡_};
 ghost use mathlib.Core.List.{[], _∷_, _++_};
 ghost use lib.ListN.{length, getD};
 ghost use Rattle.seq.specs.Decimal.{decimal};
-ghost use Rattle.printing.specs.Printing.{Put, Prints, spaced, cellPrinted, refusedLine};
+ghost use Rattle.printing.specs.Printing.{Put, Prints, spaced, cellPrinted};
+ghost use Rattle.grid.specs.Listing.{refusedLine};
 
 pub fn byte(b: u8, out: &mut [u8], at: usize) -> usize
     requires { ⌜ at < length (now out) ⌝ }

@@ -7,9 +7,8 @@ use native.Mathlib.Omega.{arith}
 use lib.ListN.{take}
 use Rattle.grid.specs.Read.{drawingTooLarge, readTable}
 use Rattle.grid.specs.Flat.{splitText}
-use Rattle.grid.specs.Listing.{linesRead}
+use Rattle.grid.specs.Listing.{linesRead, refusedLine}
 use Rattle.grid.specs.CellListing.{cellListing}
-use Rattle.printing.specs.Printing.{refusedLine}
 use Rattle.input_lines.specs.Splitting.{Splits}
 use Rattle.input_lines.specs.declared.Split.{Split}
 use Rattle.input_lines.specs.declared.Split.the-variants.{Lines, TooLarge}

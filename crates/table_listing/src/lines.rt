@@ -1,5 +1,6 @@
 // The cells of a drawing's lines, from the table call's answer.
 use crate::print::table_cells;
+use input_table::lines_table;
 use printing::refused;
 use table::TableAnswer;
 ghost use Prim.Native.Nat.{_≤_};
@@ -8,51 +9,7 @@ ghost use lib.ListN.{length};
 ghost use Rattle.seq.specs.Lists.{sum};
 ghost use Rattle.grid.specs.Flat.{splitText};
 ghost use Rattle.printing.specs.Printing.{Prints};
-ghost use Rattle.table_listing.specs.Listed.{linesListed, Told};
-
-// The table of a drawing's lines, all at column 0, with working space as the call names it.
-fn lines_table(
-    lengths: &[u16],
-    text: &[u8],
-    cells: &mut [u16],
-    kept_lengths: &mut [u16],
-    kept_text: &mut [u8],
-) -> TableAnswer
-    requires { ⌜ (length (now lengths) ≤ 128) × (sum (now lengths) ≡ length (now text)) ⌝ }
-    requires { ⌜ (length (now cells) ≡ 5120) × (length (now «kept_lengths») ≡ 16384) × (length (now «kept_text») ≡ 32768) ⌝ }
-    ensures { λ r. ⌜ Told (now (lengths .entry)) (now (text .entry)) (now (cells .exit)) (now («kept_lengths» .exit)) (now («kept_text» .exit)) r ⌝ }
-{
-    let lines = lengths.len();
-    let origins = [0u16; 128];
-    let mut glyphs = [0u8; 16384];
-    let mut offsets = [0u16; 16384];
-    let mut down = [0u8; 16384];
-    let mut right = [0u8; 16384];
-    let mut rects = [0u8; 4096];
-    let mut starts = [0u16; 128];
-    let mut counts = [0u8; 1024];
-    let mut cols = [0u16; 254];
-    let mut sections = [0u8; 127];
-    table::table(
-        lines,
-        text.len(),
-        lengths,
-        &origins[0..lines],
-        text,
-        &mut glyphs,
-        &mut offsets,
-        &mut down,
-        &mut right,
-        &mut rects,
-        &mut starts,
-        &mut counts,
-        &mut cols,
-        &mut sections,
-        cells,
-        kept_lengths,
-        kept_text,
-    )
-}
+ghost use Rattle.table_listing.specs.Listed.{linesListed};
 
 // The cells of a drawing's lines, all at column 0.
 pub fn list_lines(lengths: &[u16], text: &[u8], out: &mut [u8]) -> usize
@@ -60,10 +17,20 @@ pub fn list_lines(lengths: &[u16], text: &[u8], out: &mut [u8]) -> usize
     ensures { λ r. ⌜ Prints (now (out .exit)) r (linesListed (splitText (now (lengths .entry)) (now (text .entry)))) ⌝ }
 {
     // They hold every table.
+    let mut cols = [0u16; 254];
+    let mut sections = [0u8; 127];
     let mut cells = [0u16; 5120];
     let mut kept_lengths = [0u16; 16384];
     let mut kept_text = [0u8; 32768];
-    match lines_table(lengths, text, &mut cells, &mut kept_lengths, &mut kept_text) {
+    match lines_table(
+        lengths,
+        text,
+        &mut cols,
+        &mut sections,
+        &mut cells,
+        &mut kept_lengths,
+        &mut kept_text,
+    ) {
         TableAnswer::Refused { number, place } => refused(number, place, out),
         TableAnswer::Accepted {
             columns: across,

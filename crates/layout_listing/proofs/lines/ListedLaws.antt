@@ -13,12 +13,12 @@ use Rattle.grid.specs.Layout.{layoutOf}
 use Rattle.grid.specs.Read.{readLayout}
 use Rattle.grid.specs.Flat.{FlatDrawing, drawingContradicts, splitText, linesOf, columnNumbers}
 use Rattle.grid.specs.LayoutCall.{LayoutSpace, LayoutSizes, LayoutArrays, spaceShort, rowNumbers, cellNumbers, layoutArrays, layoutSizes, layoutShort, layoutOver, layoutAccepts, layoutAnswer, layoutAfterwards}
-use Rattle.grid.specs.Listing.{listed}
+use Rattle.grid.specs.Listing.{listed, refusedLine}
 use Rattle.grid.proofs.ReadLaws.{read-cover}
 use Rattle.layout.specs.Call.{answerOf, arrays}
 use Rattle.layout.specs.declared.LayoutAnswer.{LayoutAnswer}
 use Rattle.layout.specs.declared.LayoutAnswer.the-variants.{Accepted, Refused}
-use Rattle.printing.specs.Printing.{Prints, refusedLine}
+use Rattle.printing.specs.Printing.{Prints}
 use Rattle.printing.proofs.PutLaws.{prints-as}
 use Rattle.layout_listing.specs.Printing.{innerLines, tablePrinted}
 use Rattle.layout_listing.proofs.print.TableLaws.{columns-back, rows-back, cells-back, inner-cells}

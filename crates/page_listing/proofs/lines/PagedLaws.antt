@@ -17,6 +17,7 @@ use Rattle.grid.specs.Values.{TableCell, Table}
 use Rattle.grid.specs.Flat.{TableSizes, TableArrays, codeSection, columnsOfArray, cellsOfArray, everyNth, splitText, lengthIs, shorter, tableContradicts, tableOfArrays}
 use Rattle.grid.proofs.AnswerLaws.{accept-same, over-taken}
 use Rattle.grid.proofs.ReadLaws.{andThen-accepting, passed-if, passed-then}
+use Rattle.grid.specs.Listing.{refusedLine}
 use Rattle.drawing.specs.GridRules.{keepsRules}
 use Rattle.drawing.specs.Redraw.{tableEmpty, shapeTooLarge}
 use Rattle.drawing.specs.RedrawCall.{tableGiven}
@@ -37,7 +38,7 @@ use Rattle.table.specs.declared.TableAnswer.the-variants.{Accepted as Read, Ref
 use Rattle.input_lines.specs.Sheet.{linesAt0}
 use Rattle.input_table.specs.Told.{partsOf, TableHeld, TableTold}
 use Rattle.input_table.proofs.ToldLaws.{table-held, table-refused}
-use Rattle.printing.specs.Printing.{Prints, refusedLine}
+use Rattle.printing.specs.Printing.{Prints}
 use Rattle.printing.proofs.PutLaws.{prints-as}
 use Rattle.page_listing.specs.Inner.{cellInner, cellEntries, InnerHeld, InnerTold}
 use Rattle.page_listing.specs.Paged.{tablePaged, linesPaged}

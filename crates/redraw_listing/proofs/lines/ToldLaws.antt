@@ -13,6 +13,7 @@ use Rattle.grid.specs.Read.{drawingTooLarge}
 use Rattle.grid.specs.Flat.{FlatDrawing, TableSizes, TableArrays, splitText, linesWith, linesOf, flatDrawing, tableContradicts, tableOfArrays}
 use Rattle.grid.proofs.ReadLaws.{andThen-accepting, limited}
 use Rattle.grid.proofs.FlatDrawingLaws.{drawing-again, joinText-length}
+use Rattle.grid.specs.Listing.{refusedLine}
 use Rattle.drawing.specs.Plain.{canvasOf, canvasLines}
 use Rattle.drawing.specs.Redraw.{redraw}
 use Rattle.drawing.specs.RedrawCall.{RedrawSpace, DrawingSizes, DrawingArrays, tableGiven, redrawSpaces, drawingLent, drawingSizes, redrawAnswer, redrawAfterwards}
@@ -28,7 +29,7 @@ use Rattle.cm.specs.Late.{answerOf as drawingOf}
 use Rattle.cm.specs.declared.draw.RedrawAnswer.{RedrawAnswer}
 use Rattle.cm.specs.declared.draw.RedrawAnswer.the-variants.{Accepted, Refused}
 use Rattle.input_lines.proofs.SheetLaws.{zeroes, length-zeroes}
-use Rattle.printing.specs.Printing.{Prints, refusedLine}
+use Rattle.printing.specs.Printing.{Prints}
 use Rattle.printing.proofs.PutLaws.{prints-as}
 use Rattle.input_table.specs.Told.{partsOf, TableTold}
 use Rattle.input_table.proofs.ToldLaws.{table-held, table-refused}

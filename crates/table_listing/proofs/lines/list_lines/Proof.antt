@@ -1,6 +1,7 @@
--- `table_listing::lines::list_lines` meets its contract: each return by what the answer tells.
+-- `table_listing::lines::list_lines` meets its contract: each return by what the table call tells.
 use Prim.Native.Nat.{_≤_}
-use Rattle.table_listing.proofs.lines.ListedLaws.{few-told, table-listed, refused-listed, five-fits, parts-small}
+use Rattle.table_listing.proofs.lines.ListedLaws.{table-listed, refused-listed, parts-small}
+use Rattle.input_table.proofs.ToldLaws.{table-held, table-small, five-fits}
 use borrow.Author.Needs.{needs}
 use Rattle.table_listing.proofs.lines.list_lines.Statement.{statement}
 use Rattle.table_listing.proofs.lines.list_lines.Tie as tie
@@ -13,6 +14,12 @@ slice-aggregate-lines-table-2 c = search needs
 
 slice-aggregate-lines-table-3 : tie.Need-slice-aggregate-lines-table-3
 slice-aggregate-lines-table-3 c = search needs
+
+slice-aggregate-lines-table-4 : tie.Need-slice-aggregate-lines-table-4
+slice-aggregate-lines-table-4 c = search needs
+
+slice-aggregate-lines-table-5 : tie.Need-slice-aggregate-lines-table-5
+slice-aggregate-lines-table-5 c = search needs
 
 lines-table-requires : tie.Need-lines-table-requires
 lines-table-requires c κs = search needs
@@ -27,11 +34,9 @@ enum-known-across : tie.Need-enum-known-across
 enum-known-across c = search needs
 
 -- the accepted table is small
-small : (c : tie.After-across) → (c .across .given .0 .1 .1 .0 ≤ 1024) × (c .across .given .0 .1 .1 .1 .0 ≤ 16384) × (c .across .given .0 .1 .1 .1 .1 .0 ≤ 32768)
-small c =
-    let call = c .before .before .before .before .before .lines-table in
-    let start = c .before .before .before .before .before .before .before .before .before .before .before .before in
-    few-told (start .args .lengths .now) (start .args .text .now) (call .last .1 .1 .0) (call .last .1 .1 .1 .0) (call .last .1 .1 .1 .1 .0) (call .result) _ _ _ _ _ (c .across .given .1) (call .ensures)
+small : (c : tie.After-across) → let sizes = c .across .given .0 in
+    (sizes .0 ≤ 127) × (sizes .1 .0 ≤ 127) × (sizes .1 .1 .0 ≤ 1024) × (sizes .1 .1 .1 .0 ≤ 16384) × (sizes .1 .1 .1 .1 .0 ≤ 32768)
+small c = table-small (table-held _ _ _ _ (c .before .before .before .before .before .before .before .lines-table .ensures) _ _ _ _ _ (c .across .given .1))
 
 mul-table-cells : tie.Need-mul-table-cells
 mul-table-cells c = five-fits (small (c .before))
@@ -65,9 +70,8 @@ part-table-cells-end-3 c = search (needs, small (c .before .before .before .befo
 
 table-cells-requires : tie.Need-table-cells-requires
 table-cells-requires c κs =
-    let call = c .before .before .before .before .before .before .before .before .before .before .before .before .before .lines-table in
-    let few = parts-small (small (c .before .before .before .before .before .before .before .before)) (call .last .1 .1 .1 .0) (call .last .1 .1 .1 .1 .0) in
-    (few .0, few .1, few .2, c .before .before .before .before .before .before .before .before .before .before .before .before .before .before .before .before .before .before .before .before .pre .2)
+    let few = parts-small (small (c .before .before .before .before .before .before .before .before)) _ _ in
+    (few .0, few .1, few .2, search needs)
 
 same-length : tie.Need-same-length
 same-length c = search needs
@@ -88,6 +92,8 @@ list-lines-spec =
     slice-aggregate-lines-table
     slice-aggregate-lines-table-2
     slice-aggregate-lines-table-3
+    slice-aggregate-lines-table-4
+    slice-aggregate-lines-table-5
     lines-table-requires
     enum-known-number
     refused-requires

@@ -1,10 +1,1 @@
-pub mod ReplyLaws
-pub mod CutReplyLaws
-pub mod TableReplyLaws
-pub mod CellReplyLaws
-pub mod RedrawReplyLaws
-pub mod SheetReplyLaws
-pub mod PositionsReplyLaws
-pub mod CellPositionReplyLaws
-pub mod LineEndReplyLaws
-pub mod PageReplyLaws
+pub mod RegisterLaws

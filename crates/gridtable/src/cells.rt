@@ -1,12 +1,12 @@
 // The cut lines of one cell.
-use crate::cell_reply::cell_reply;
-use crate::reply::CellReply;
 use cell::cell;
+use replies::cells::CellReply;
+use replies::cells::cell_reply;
 ghost use mathlib.Core.Path.{_≡_};
 ghost use lib.ListN.{length};
 ghost use Rattle.grid.specs.TableCall.{cellAnswer, cellAfterwards};
 ghost use Rattle.grid.specs.LayoutCall.{spaces, drawing};
-ghost use Rattle.gridtable.specs.CellReply.{cellReplyOf};
+ghost use Rattle.replies.specs.CellReply.{cellReplyOf};
 
 // cell::cell.
 #[no_mangle]

@@ -1,12 +1,13 @@
 // Cutting one line.
-use crate::cut_reply::cut_reply;
-use crate::reply::CutReply;
 use fragments::cell_fragment;
+use replies::fragment::CutReply;
+use replies::fragment::cut_reply;
 use text::ByteAt;
 use text::Column;
 ghost use mathlib.Core.Path.{_≡_};
 ghost use Rattle.grid.specs.CutCall.{cutNumbersAnswer};
-ghost use Rattle.gridtable.specs.CutReply.{cutReplyOf, lineGiven, rangeGiven};
+ghost use Rattle.replies.specs.CutReply.{cutReplyOf};
+ghost use Rattle.gridtable.specs.Given.{lineGiven, rangeGiven};
 
 // cut::cell_fragment.
 #[no_mangle]

@@ -1,32 +1,23 @@
 // The public calls for C and Rust: slices as pointer and length, answers as one struct. In C the
 // arrays must be valid for their lengths and aligned, and one that is written may overlap no other.
-pub mod cell_position_reply;
-pub mod cell_reply;
 pub mod cells;
-pub mod cut_reply;
 pub mod fragment;
-pub mod layout_reply;
-pub mod line_end_reply;
-pub mod page_reply;
+pub mod lines;
 pub mod pages;
-pub mod positions_reply;
-pub mod redraw_reply;
 pub mod redraws;
 pub mod registers;
-pub mod reply;
-pub mod sheet_reply;
+pub mod room;
 pub mod sheets;
 pub mod source_positions;
-pub mod table_reply;
 pub mod tables;
 
-use crate::layout_reply::layout_reply;
-use crate::reply::LayoutReply;
 use layout::layout;
+use replies::layouts::LayoutReply;
+use replies::layouts::layout_reply;
 ghost use mathlib.Core.Path.{_≡_};
 ghost use Rattle.grid.specs.LayoutCall.{layoutAnswer, layoutAfterwards, spaces, drawing};
 ghost use Rattle.layout.specs.Call.{arrays};
-ghost use Rattle.gridtable.specs.Reply.{replyOf};
+ghost use Rattle.replies.specs.LayoutReply.{layoutReplyOf};
 
 // layout::layout.
 #[no_mangle]
@@ -51,7 +42,7 @@ pub extern "C" fn grid_layout(
         let given = drawing lines bytes (now (lengths .entry)) (now (columns .entry)) (now (text .entry)) in
         let before = arrays (now (cols .entry)) (now (rows .entry)) (now (cells .entry)) (now (ranges .entry)) in
         let after = arrays (now (cols .exit)) (now (rows .exit)) (now (cells .exit)) (now (ranges .exit)) in
-        ⌜ (r ≡ replyOf (layoutAnswer space given before))
+        ⌜ (r ≡ layoutReplyOf (layoutAnswer space given before))
         × (after ≡ layoutAfterwards space given before) ⌝ }
 {
     layout_reply(layout(

@@ -1,14 +1,15 @@
 // A table's page, and a column's share on it.
-use crate::page_reply::page_reply;
-use crate::reply::PageReply;
-use crate::reply::ShareReply;
 use html_page::page;
 use html_page::share::share_of;
+use replies::pages::PageReply;
+use replies::pages::ShareReply;
+use replies::pages::page_reply;
+use replies::pages::share_reply;
 ghost use mathlib.Core.Path.{_≡_};
 ghost use Rattle.html.specs.Shares.{shareOf};
 ghost use Rattle.html.specs.PageCall.{pageAnswer, pageAfterwards};
 ghost use Rattle.html_page.specs.Call.{sizes, arrays};
-ghost use Rattle.gridtable.specs.PageReply.{pageReplyOf, shareReplyOf};
+ghost use Rattle.replies.specs.PageReply.{pageReplyOf, shareReplyOf};
 
 // html_page::page.
 #[no_mangle]
@@ -48,9 +49,5 @@ pub extern "C" fn grid_page(
 pub extern "C" fn grid_share(width: u16, total: u32) -> ShareReply
     ensures { λ r. ⌜ r ≡ shareReplyOf (shareOf width total) ⌝ }
 {
-    let share = share_of(width, total);
-    ShareReply {
-        hundredths: share.hundredths,
-        percent: share.percent,
-    }
+    share_reply(share_of(width, total))
 }

@@ -1,10 +1,10 @@
 // From a table to its drawing.
-use crate::redraw_reply::redraw_reply;
-use crate::reply::RedrawReply;
 use cm::redraw;
+use replies::redraws::RedrawReply;
+use replies::redraws::redraw_reply;
 ghost use mathlib.Core.Path.{_≡_};
 ghost use Rattle.drawing.specs.RedrawCall.{redrawSpaces, tableGiven, tableLent, drawingLent, redrawAnswer, redrawAfterwards};
-ghost use Rattle.gridtable.specs.RedrawReply.{redrawReplyOf};
+ghost use Rattle.replies.specs.RedrawReply.{redrawReplyOf};
 
 // cm::redraw.
 #[no_mangle]

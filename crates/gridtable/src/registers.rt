@@ -1,17 +1,18 @@
 // Adding, finding and remapping a line end.
-use crate::line_end_reply::add_reply;
-use crate::line_end_reply::find_reply;
-use crate::line_end_reply::remap_reply;
-use crate::reply::AddReply;
-use crate::reply::FindReply;
-use crate::reply::RemapReply;
 use line_ends::add;
 use line_ends::find;
 use line_ends::remap;
+use replies::registers::AddReply;
+use replies::registers::FindReply;
+use replies::registers::RemapReply;
+use replies::registers::add_reply;
+use replies::registers::find_reply;
+use replies::registers::remap_reply;
 use sourcepos::CellLineEnd;
 ghost use mathlib.Core.Path.{_≡_};
 ghost use Rattle.sourcepos.specs.LineEndCalls.{register, addAnswer, addAfterwards, findAnswer, remapAnswer};
-ghost use Rattle.gridtable.specs.LineEndReply.{addReplyOf, findReplyOf, remapReplyOf, endGiven};
+ghost use Rattle.replies.specs.LineEndReply.{addReplyOf, findReplyOf, remapReplyOf};
+ghost use Rattle.gridtable.specs.Given.{endGiven};
 
 // line_ends::add.
 #[no_mangle]

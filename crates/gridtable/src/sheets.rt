@@ -1,13 +1,13 @@
 // From a drawing to its redrawing.
-use crate::reply::SheetReply;
-use crate::sheet_reply::sheet_reply;
 use redrawing::redraw_sheet;
+use replies::sheets::SheetReply;
+use replies::sheets::sheet_reply;
 ghost use mathlib.Core.Path.{_≡_};
 ghost use Rattle.grid.specs.LayoutCall.{spaces, drawing};
 ghost use Rattle.grid.specs.TableCall.{tableSpaces};
 ghost use Rattle.drawing.specs.RedrawCall.{redrawSpaces, drawingLent};
 ghost use Rattle.drawing.specs.SheetCall.{sheetSpaces, sheetAnswer, sheetAfterwards};
-ghost use Rattle.gridtable.specs.SheetReply.{sheetReplyOf};
+ghost use Rattle.replies.specs.SheetReply.{sheetReplyOf};
 
 // redrawing::redraw_sheet.
 #[no_mangle]

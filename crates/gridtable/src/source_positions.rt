@@ -1,16 +1,16 @@
 // The source positions of a table, its rows and its cells.
-use crate::cell_position_reply::cell_position_reply;
-use crate::positions_reply::positions_reply;
-use crate::reply::CellPositionReply;
-use crate::reply::PositionsReply;
 use positions::cell_position;
 use positions::positions;
+use replies::source_positions::CellPositionReply;
+use replies::source_positions::PositionsReply;
+use replies::source_positions::cell_position_reply;
+use replies::source_positions::positions_reply;
 ghost use mathlib.Core.Path.{_≡_};
 ghost use lib.ListN.{length};
 ghost use Rattle.grid.specs.LayoutCall.{spaces, drawing};
 ghost use Rattle.sourcepos.specs.PositionsCall.{placed, positionsLent, positionsAnswer, positionsAfterwards, cellPositionAnswer};
-ghost use Rattle.gridtable.specs.PositionsReply.{positionsReplyOf};
-ghost use Rattle.gridtable.specs.CellPositionReply.{cellPositionReplyOf};
+ghost use Rattle.replies.specs.PositionsReply.{positionsReplyOf};
+ghost use Rattle.replies.specs.CellPositionReply.{cellPositionReplyOf};
 
 // positions::positions.
 #[no_mangle]

@@ -1,12 +1,12 @@
 // From a drawing to its table.
-use crate::reply::TableReply;
-use crate::table_reply::table_reply;
+use replies::tables::TableReply;
+use replies::tables::table_reply;
 use table::table;
 ghost use mathlib.Core.Path.{_≡_};
 ghost use Rattle.grid.specs.TableCall.{tableAnswer, tableAfterwards, tableSpaces};
 ghost use Rattle.grid.specs.LayoutCall.{spaces, drawing};
 ghost use Rattle.table.specs.Call.{arrays};
-ghost use Rattle.gridtable.specs.TableReply.{tableReplyOf};
+ghost use Rattle.replies.specs.TableReply.{tableReplyOf};
 
 // table::table.
 #[no_mangle]

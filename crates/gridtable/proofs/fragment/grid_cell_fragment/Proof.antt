@@ -1,5 +1,5 @@
 -- `gridtable::fragment::grid_cell_fragment` meets its contract: the reply to what the call answers.
-use Rattle.gridtable.proofs.CutReplyLaws.{cut-reply-told}
+use Rattle.replies.proofs.CutReplyLaws.{cut-reply-told}
 use borrow.Author.Needs.{needs}
 use Rattle.gridtable.proofs.fragment.grid_cell_fragment.Statement.{statement}
 use Rattle.gridtable.proofs.fragment.grid_cell_fragment.Tie as tie

@@ -1,5 +1,5 @@
 -- `gridtable::pages::grid_page` meets its contract: the reply to what the call answers.
-use Rattle.gridtable.proofs.PageReplyLaws.{page-reply-told}
+use Rattle.replies.proofs.PageReplyLaws.{page-reply-told}
 use borrow.Author.Needs.{needs}
 use Rattle.gridtable.proofs.pages.grid_page.Statement.{statement}
 use Rattle.gridtable.proofs.pages.grid_page.Tie as tie

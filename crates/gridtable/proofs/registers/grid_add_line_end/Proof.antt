@@ -1,5 +1,6 @@
 -- `gridtable::registers::grid_add_line_end` meets its contract: the reply to what the call answers, and the three arrays of the register.
-use Rattle.gridtable.proofs.LineEndReplyLaws.{add-reply-told, register-arrays}
+use Rattle.replies.proofs.LineEndReplyLaws.{add-reply-told}
+use Rattle.gridtable.proofs.RegisterLaws.{register-arrays}
 use borrow.Author.Needs.{needs}
 use Rattle.gridtable.proofs.registers.grid_add_line_end.Statement.{statement}
 use Rattle.gridtable.proofs.registers.grid_add_line_end.Tie as tie

@@ -1,5 +1,5 @@
 -- `gridtable::registers::grid_find_line_end` meets its contract: the reply to what the call answers.
-use Rattle.gridtable.proofs.LineEndReplyLaws.{find-reply-told}
+use Rattle.replies.proofs.LineEndReplyLaws.{find-reply-told}
 use borrow.Author.Needs.{needs}
 use Rattle.gridtable.proofs.registers.grid_find_line_end.Statement.{statement}
 use Rattle.gridtable.proofs.registers.grid_find_line_end.Tie as tie

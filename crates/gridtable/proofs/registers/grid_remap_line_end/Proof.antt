@@ -1,5 +1,5 @@
 -- `gridtable::registers::grid_remap_line_end` meets its contract: the reply to what the call answers.
-use Rattle.gridtable.proofs.LineEndReplyLaws.{remap-reply-told}
+use Rattle.replies.proofs.LineEndReplyLaws.{remap-reply-told}
 use borrow.Author.Needs.{needs}
 use Rattle.gridtable.proofs.registers.grid_remap_line_end.Statement.{statement}
 use Rattle.gridtable.proofs.registers.grid_remap_line_end.Tie as tie

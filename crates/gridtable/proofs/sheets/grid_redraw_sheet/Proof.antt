@@ -1,5 +1,5 @@
 -- `gridtable::sheets::grid_redraw_sheet` meets its contract: the reply to what the call answers.
-use Rattle.gridtable.proofs.SheetReplyLaws.{sheet-reply-told}
+use Rattle.replies.proofs.SheetReplyLaws.{sheet-reply-told}
 use borrow.Author.Needs.{needs}
 use Rattle.gridtable.proofs.sheets.grid_redraw_sheet.Statement.{statement}
 use Rattle.gridtable.proofs.sheets.grid_redraw_sheet.Tie as tie
@@ -10,9 +10,25 @@ redraw-sheet-requires c κs = search needs
 sheet-reply-requires : tie.Need-sheet-reply-requires
 sheet-reply-requires c κs = search needs
 
+-- back from the reply over the arrays handed back: the drawing, redraw's working space in two steps, the table, reading's in two
+abbrev over-drawing : tie.After-sheet-reply → tie.After-slice-known41
+over-drawing c = c .before .before .before .before .before .before .before
+
+abbrev over-canvas : tie.After-sheet-reply → tie.After-slice-known37
+over-canvas c = over-drawing c .before .before .before .before .before .before .before .before
+
+abbrev over-lines : tie.After-sheet-reply → tie.After-slice-known34
+over-lines c = over-canvas c .before .before .before .before .before .before
+
+abbrev over-table : tie.After-sheet-reply → tie.After-slice-known29
+over-table c = over-lines c .before .before .before .before .before .before .before .before .before .before
+
+abbrev over-rects : tie.After-sheet-reply → tie.After-slice-known26
+over-rects c = over-table c .before .before .before .before .before .before
+
 -- where the call has returned
 abbrev called : tie.After-sheet-reply → tie.After-redraw-sheet
-called c = c .before .before .before .before .before .before .before .before .before .before .before .before .before .before .before .before .before .before .before .before .before .before .before .before .before .before .before .before .before .before .before .before .before .before .before .before .before .before .before .before .before .before .before .before .before
+called c = over-rects c .before .before .before .before .before .before .before .before
 
 same-length : tie.Need-same-length
 same-length c = called c .redraw-sheet .kept .1 .1 .1 .1 .1 .1 .0

@@ -1,5 +1,5 @@
 -- `gridtable::source_positions::grid_cell_position` meets its contract: the reply to what the call answers.
-use Rattle.gridtable.proofs.CellPositionReplyLaws.{cell-position-reply-told}
+use Rattle.replies.proofs.CellPositionReplyLaws.{cell-position-reply-told}
 use borrow.Author.Needs.{needs}
 use Rattle.gridtable.proofs.source_positions.grid_cell_position.Statement.{statement}
 use Rattle.gridtable.proofs.source_positions.grid_cell_position.Tie as tie
@@ -10,27 +10,23 @@ cell-position-requires c κs = search needs
 cell-position-reply-requires : tie.Need-cell-position-reply-requires
 cell-position-reply-requires c κs = search needs
 
--- where the call has returned
-called : tie.After-cell-position-reply → tie.After-cell-position
-called c = c .before .before .before .before .before .before .before .before .before .before .before .before .before
-
 same-length : tie.Need-same-length
-same-length c = search (called c .cell-position .kept)
+same-length c = search needs
 
 same-length-2 : tie.Need-same-length-2
-same-length-2 c = search (called c .cell-position .kept)
+same-length-2 c = search needs
 
 same-length-3 : tie.Need-same-length-3
-same-length-3 c = search (called c .cell-position .kept)
+same-length-3 c = search needs
 
 same-length-4 : tie.Need-same-length-4
-same-length-4 c = search (called c .cell-position .kept)
+same-length-4 c = search needs
 
 same-length-5 : tie.Need-same-length-5
-same-length-5 c = search (called c .cell-position .kept)
+same-length-5 c = search needs
 
 same-length-6 : tie.Need-same-length-6
-same-length-6 c = search (called c .cell-position .kept)
+same-length-6 c = search needs
 
 returns : tie.Need-returns
 returns c = search (needs, cell-position-reply-told)

@@ -1,5 +1,5 @@
 -- `gridtable::tables::grid_table` meets its contract: the reply to what the call answers.
-use Rattle.gridtable.proofs.TableReplyLaws.{table-reply-told}
+use Rattle.replies.proofs.TableReplyLaws.{table-reply-told}
 use borrow.Author.Needs.{needs}
 use Rattle.gridtable.proofs.tables.grid_table.Statement.{statement}
 use Rattle.gridtable.proofs.tables.grid_table.Tie as tie
@@ -10,45 +10,41 @@ table-requires c κs = search needs
 table-reply-requires : tie.Need-table-reply-requires
 table-reply-requires c κs = search needs
 
--- where the call has returned
-called : tie.After-table-reply → tie.After-table
-called c = c .before .before .before .before .before .before .before .before .before .before .before .before .before .before .before .before .before .before .before .before .before .before .before .before .before
-
 same-length : tie.Need-same-length
-same-length c = search (called c .table .kept)
+same-length c = search needs
 
 same-length-2 : tie.Need-same-length-2
-same-length-2 c = search (called c .table .kept)
+same-length-2 c = search needs
 
 same-length-3 : tie.Need-same-length-3
-same-length-3 c = search (called c .table .kept)
+same-length-3 c = search needs
 
 same-length-4 : tie.Need-same-length-4
-same-length-4 c = search (called c .table .kept)
+same-length-4 c = search needs
 
 same-length-5 : tie.Need-same-length-5
-same-length-5 c = search (called c .table .kept)
+same-length-5 c = search needs
 
 same-length-6 : tie.Need-same-length-6
-same-length-6 c = search (called c .table .kept)
+same-length-6 c = search needs
 
 same-length-7 : tie.Need-same-length-7
-same-length-7 c = search (called c .table .kept)
+same-length-7 c = search needs
 
 same-length-8 : tie.Need-same-length-8
-same-length-8 c = search (called c .table .kept)
+same-length-8 c = search needs
 
 same-length-9 : tie.Need-same-length-9
-same-length-9 c = search (called c .table .kept)
+same-length-9 c = search needs
 
 same-length-10 : tie.Need-same-length-10
-same-length-10 c = search (called c .table .kept)
+same-length-10 c = search needs
 
 same-length-11 : tie.Need-same-length-11
-same-length-11 c = search (called c .table .kept)
+same-length-11 c = search needs
 
 same-length-12 : tie.Need-same-length-12
-same-length-12 c = search (called c .table .kept)
+same-length-12 c = search needs
 
 returns : tie.Need-returns
 returns c = search (needs, table-reply-told)

@@ -1,0 +1,17 @@
+-- `replies::room::positions_room` meets its contract: each number is that of the definition.
+use mathlib.Core.Path.{refl}
+use borrow.Author.Needs.{needs}
+use Rattle.replies.proofs.room.positions_room.Statement.{statement}
+use Rattle.replies.proofs.room.positions_room.Tie as tie
+
+mul-t1 : tie.Need-mul-t1
+mul-t1 c = search needs
+
+mul-t2 : tie.Need-mul-t2
+mul-t2 c = search needs
+
+returns : tie.Need-returns
+returns c = refl
+
+pub positions-room-spec : {M : Type 1} → statement M
+positions-room-spec = tie.close (tie.spec mul-t1 mul-t2 returns)

@@ -1,0 +1,20 @@
+-- `replies::tables::table_reply` meets its contract: each case of the answer has its reply.
+use Rattle.replies.proofs.TableReplyLaws.{table-reply-accepted, table-reply-refused}
+use borrow.Author.Needs.{needs}
+use Rattle.replies.proofs.tables.table_reply.Statement.{statement}
+use Rattle.replies.proofs.tables.table_reply.Tie as tie
+
+enum-known-answer : tie.Need-enum-known-answer
+enum-known-answer c = search needs
+
+enum-known-answer-2 : tie.Need-enum-known-answer-2
+enum-known-answer-2 c = search needs
+
+returns : tie.Need-returns
+returns c = search table-reply-accepted
+
+returns-2 : tie.Need-returns-2
+returns-2 c = search table-reply-refused
+
+pub table-reply-spec : {M : Type 1} → statement M
+table-reply-spec = tie.close (tie.spec enum-known-answer enum-known-answer-2 returns returns-2)

@@ -1,0 +1,11 @@
+pub mod LayoutReply
+pub mod CutReply
+pub mod TableReply
+pub mod CellReply
+pub mod RedrawReply
+pub mod SheetReply
+pub mod PositionsReply
+pub mod CellPositionReply
+pub mod LineEndReply
+pub mod PageReply
+pub mod Room

@@ -10,25 +10,19 @@
 // An answer is `refused`, number and place; or `accepted`, width, columns, rows, cells, ranges and all entries of the four arrays.
 use layout::LayoutAnswer;
 use libc::STDOUT_FILENO;
-use replaying::find;
 use replaying::least;
-use replaying::move_down;
+use replaying::next_line;
 use replaying::number_field;
 use replaying::numbers_field;
 use replaying::print;
 use replaying::print_entries;
+use replaying::print_refused;
 use replaying::space;
 use replaying::text_field;
-ghost use Prim.Native.Nat.{_≤_};
-ghost use lib.ListN.{length};
 
 fn print_answer(answer: LayoutAnswer, cols: &[u16], rows: &[u16], cells: &[u16], ranges: &[u16]) {
     match answer {
-        LayoutAnswer::Refused { number, place } => {
-            io::write_all(STDOUT_FILENO, b"refused");
-            print(number);
-            print(place);
-        }
+        LayoutAnswer::Refused { number, place } => print_refused(number, place),
         LayoutAnswer::Accepted {
             width,
             columns: across,
@@ -51,26 +45,15 @@ fn print_answer(answer: LayoutAnswer, cols: &[u16], rows: &[u16], cells: &[u16],
     io::write_all(STDOUT_FILENO, b"\n");
 }
 
-// Calls with working space and output arrays of these lengths.
-fn answer_with(
+// The output arrays hold the largest results.
+fn answer(
     lines: usize,
     bytes: usize,
     lengths: &[u16],
     columns: &[u16],
     text: &[u8],
-    a: usize,
-    b: usize,
-    c: usize,
-    d: usize,
-    e: usize,
-    f: usize,
-    g: usize,
-    h: usize,
-    k: usize,
-)
-    requires { ⌜ (a ≤ 16384) × (b ≤ 16384) × (c ≤ 16384) × (d ≤ 16384) × (e ≤ 4096) × (f ≤ 254)
-        × (g ≤ 381) × (h ≤ 5120) × (k ≤ 32768) ⌝ }
-{
+    spaces: &[u16],
+) {
     let mut glyphs = [0u8; 16384];
     let mut offsets = [0u16; 16384];
     let mut down = [0u8; 16384];
@@ -86,44 +69,17 @@ fn answer_with(
         lengths,
         columns,
         text,
-        &mut glyphs[0..a],
-        &mut offsets[0..b],
-        &mut down[0..c],
-        &mut right[0..d],
-        &mut rects[0..e],
-        &mut cols[0..f],
-        &mut rows[0..g],
-        &mut cells[0..h],
-        &mut ranges[0..k],
+        &mut glyphs[0..space(spaces, 0, 16384)],
+        &mut offsets[0..space(spaces, 1, 16384)],
+        &mut down[0..space(spaces, 2, 16384)],
+        &mut right[0..space(spaces, 3, 16384)],
+        &mut rects[0..space(spaces, 4, 4096)],
+        &mut cols[0..space(spaces, 5, 254)],
+        &mut rows[0..space(spaces, 6, 381)],
+        &mut cells[0..space(spaces, 7, 5120)],
+        &mut ranges[0..space(spaces, 8, 32768)],
     );
     print_answer(answer, &cols, &rows, &cells, &ranges);
-}
-
-// The output arrays hold the largest results.
-fn answer(
-    lines: usize,
-    bytes: usize,
-    lengths: &[u16],
-    columns: &[u16],
-    text: &[u8],
-    spaces: &[u16],
-) {
-    answer_with(
-        lines,
-        bytes,
-        lengths,
-        columns,
-        text,
-        space(spaces, 0, 16384),
-        space(spaces, 1, 16384),
-        space(spaces, 2, 16384),
-        space(spaces, 3, 16384),
-        space(spaces, 4, 4096),
-        space(spaces, 5, 254),
-        space(spaces, 6, 381),
-        space(spaces, 7, 5120),
-        space(spaces, 8, 32768),
-    );
 }
 
 fn answer_line(line: &[u8]) {
@@ -145,40 +101,22 @@ fn answer_line(line: &[u8]) {
     );
 }
 
-// Answers the lines that have their line feed, and gives the place after them.
-fn answer_lines(input: &[u8]) -> usize
-    ensures { λ r. ⌜ r ≤ length (now (input .entry)) ⌝ }
-{
-    let mut at = 0;
-    while at < input.len() {
-        let end = find(input, at, b'\n');
-        if end >= input.len() {
-            return at;
-        }
-        answer_line(&input[at..end]);
-        at = end + 1;
-    }
-    at
-}
-
-// Answers what a full buffer holds, and gives how many bytes of an unfinished line are left at its start.
-fn answer_some(buffer: &mut [u8], held: usize) -> usize
-    requires { ⌜ held ≤ length (now buffer) ⌝ }
-    ensures { λ r. ⌜ r ≤ length (now (buffer .exit)) ⌝ }
-{
-    let more = io::read_full(libc::STDIN_FILENO, &mut buffer[held..]);
-    let end = held + more;
-    let used = answer_lines(&buffer[0..end]);
-    move_down(buffer, used, end)
-}
-
-// A turn answers up to 65,536 bytes: 64 are enough for all cases.
+// At most 65,536 cases.
 fn answer_all(buffer: &mut [u8]) {
+    let mut at = 0;
     let mut held = 0;
-    let mut turns: usize = 0;
-    while turns < 64 {
-        held = answer_some(buffer, held);
-        turns += 1;
+    let mut answered: usize = 0;
+    while answered < 65536 {
+        let line = next_line(buffer, at, held);
+        let start = line.start;
+        let end = line.end;
+        held = line.held;
+        if held <= end {
+            return;
+        }
+        answer_line(&buffer[start..end]);
+        at = end + 1;
+        answered += 1;
     }
 }
 

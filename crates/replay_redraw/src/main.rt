@@ -11,25 +11,19 @@
 // An answer is `refused`, number and place; or `accepted`, lines, bytes, all line lengths, all line columns, and the text as it is.
 use cm::draw::RedrawAnswer;
 use libc::STDOUT_FILENO;
-use replaying::find;
 use replaying::least;
-use replaying::move_down;
+use replaying::next_line;
 use replaying::number_field;
 use replaying::numbers_field;
 use replaying::print;
 use replaying::print_entries;
+use replaying::print_refused;
 use replaying::space;
 use replaying::text_field;
-ghost use Prim.Native.Nat.{_≤_};
-ghost use lib.ListN.{length};
 
 fn print_answer(answer: RedrawAnswer, lengths: &[u16], columns: &[u16], text: &[u8]) {
     match answer {
-        RedrawAnswer::Refused { number, place } => {
-            io::write_all(STDOUT_FILENO, b"refused");
-            print(number);
-            print(place);
-        }
+        RedrawAnswer::Refused { number, place } => print_refused(number, place),
         RedrawAnswer::Accepted { lines, bytes } => {
             io::write_all(STDOUT_FILENO, b"accepted");
             print(lines);
@@ -44,33 +38,16 @@ fn print_answer(answer: RedrawAnswer, lengths: &[u16], columns: &[u16], text: &[
     io::write_all(STDOUT_FILENO, b"\n");
 }
 
-// Calls with working space and output arrays of these lengths, in the order of the call.
-fn answer_with(
-    origin: usize,
-    columns: usize,
-    rows: usize,
-    n: usize,
-    lines: usize,
-    bytes: usize,
+// The output arrays hold the largest results.
+fn answer(
+    line: &[u8],
     cols: &[u16],
     sections: &[u8],
     cells: &[u16],
     lengths: &[u16],
     text: &[u8],
-    a: usize,
-    b: usize,
-    c: usize,
-    d: usize,
-    e: usize,
-    f: usize,
-    g: usize,
-    h: usize,
-    k: usize,
-    m: usize,
-)
-    requires { ⌜ (a ≤ 16384) × (b ≤ 16384) × (c ≤ 1024) × (d ≤ 1024) × (e ≤ 1024) × (f ≤ 4096) × (g ≤ 16384) ⌝ }
-    requires { ⌜ (h ≤ 128) × (k ≤ 128) × (m ≤ 32768) ⌝ }
-{
+    spaces: &[u16],
+) {
     let mut starts = [0u16; 16384];
     let mut ends = [0u16; 16384];
     let mut firsts = [0u16; 1024];
@@ -82,42 +59,6 @@ fn answer_with(
     let mut out_columns = [0u16; 128];
     let mut out_text = [0u8; 32768];
     let answer = cm::redraw(
-        origin,
-        columns,
-        rows,
-        n,
-        lines,
-        bytes,
-        cols,
-        sections,
-        cells,
-        lengths,
-        text,
-        &mut starts[0..a],
-        &mut ends[0..b],
-        &mut firsts[0..c],
-        &mut heights[0..d],
-        &mut wides[0..e],
-        &mut rects[0..f],
-        &mut canvas[0..g],
-        &mut out_lengths[0..h],
-        &mut out_columns[0..k],
-        &mut out_text[0..m],
-    );
-    print_answer(answer, &out_lengths, &out_columns, &out_text);
-}
-
-// The output arrays hold the largest drawing.
-fn answer(
-    line: &[u8],
-    cols: &[u16],
-    sections: &[u8],
-    cells: &[u16],
-    lengths: &[u16],
-    text: &[u8],
-    spaces: &[u16],
-) {
-    answer_with(
         number_field(line, 0),
         number_field(line, 1),
         number_field(line, 2),
@@ -129,17 +70,18 @@ fn answer(
         cells,
         lengths,
         text,
-        space(spaces, 0, 16384),
-        space(spaces, 1, 16384),
-        space(spaces, 2, 1024),
-        space(spaces, 3, 1024),
-        space(spaces, 4, 1024),
-        space(spaces, 5, 4096),
-        space(spaces, 6, 16384),
-        space(spaces, 7, 128),
-        space(spaces, 8, 128),
-        space(spaces, 9, 32768),
+        &mut starts[0..space(spaces, 0, 16384)],
+        &mut ends[0..space(spaces, 1, 16384)],
+        &mut firsts[0..space(spaces, 2, 1024)],
+        &mut heights[0..space(spaces, 3, 1024)],
+        &mut wides[0..space(spaces, 4, 1024)],
+        &mut rects[0..space(spaces, 5, 4096)],
+        &mut canvas[0..space(spaces, 6, 16384)],
+        &mut out_lengths[0..space(spaces, 7, 128)],
+        &mut out_columns[0..space(spaces, 8, 128)],
+        &mut out_text[0..space(spaces, 9, 32768)],
     );
+    print_answer(answer, &out_lengths, &out_columns, &out_text);
 }
 
 fn answer_line(line: &[u8]) {
@@ -166,40 +108,22 @@ fn answer_line(line: &[u8]) {
     );
 }
 
-// Answers the lines that have their line feed, and gives the place after them.
-fn answer_lines(input: &[u8]) -> usize
-    ensures { λ r. ⌜ r ≤ length (now (input .entry)) ⌝ }
-{
-    let mut at = 0;
-    while at < input.len() {
-        let end = find(input, at, b'\n');
-        if end >= input.len() {
-            return at;
-        }
-        answer_line(&input[at..end]);
-        at = end + 1;
-    }
-    at
-}
-
-// Answers what a full buffer holds, and gives how many bytes of an unfinished line are left at its start.
-fn answer_some(buffer: &mut [u8], held: usize) -> usize
-    requires { ⌜ held ≤ length (now buffer) ⌝ }
-    ensures { λ r. ⌜ r ≤ length (now (buffer .exit)) ⌝ }
-{
-    let more = io::read_full(libc::STDIN_FILENO, &mut buffer[held..]);
-    let end = held + more;
-    let used = answer_lines(&buffer[0..end]);
-    move_down(buffer, used, end)
-}
-
-// A turn answers up to 65,536 bytes: 64 are enough for all cases.
+// At most 65,536 cases.
 fn answer_all(buffer: &mut [u8]) {
+    let mut at = 0;
     let mut held = 0;
-    let mut turns: usize = 0;
-    while turns < 64 {
-        held = answer_some(buffer, held);
-        turns += 1;
+    let mut answered: usize = 0;
+    while answered < 65536 {
+        let line = next_line(buffer, at, held);
+        let start = line.start;
+        let end = line.end;
+        held = line.held;
+        if held <= end {
+            return;
+        }
+        answer_line(&buffer[start..end]);
+        at = end + 1;
+        answered += 1;
     }
 }
 

@@ -1,10 +1,10 @@
-// What the programs that replay cases have in common: the fields of a case, and printing.
+// What the programs that replay cases have in common: the lines of the input, the fields of a case, and printing.
 use libc::STDOUT_FILENO;
 ghost use Prim.Native.Nat.{_≤_, _<_};
 ghost use lib.ListN.{length};
 
 // The first `stop` at or after `from`, or the end.
-pub fn find(s: &[u8], from: usize, stop: u8) -> usize
+fn find(s: &[u8], from: usize, stop: u8) -> usize
     requires { ⌜ from ≤ length (now s) ⌝ }
     ensures { λ r. ⌜ (from ≤ r) × (r ≤ length (now (s .entry))) ⌝ }
 {
@@ -38,7 +38,11 @@ fn wide(b: u8) -> usize
     b as usize
 }
 
-pub fn entry(x: u16) -> usize {
+fn entry(x: u16) -> usize {
+    x as usize
+}
+
+fn word_entry(x: u32) -> usize {
     x as usize
 }
 
@@ -56,8 +60,18 @@ fn number(digits: &[u8]) -> usize {
     value
 }
 
-fn small_number(digits: &[u8]) -> u16 {
+// A number of 32 bits; the largest for one that does not fit.
+fn word(digits: &[u8]) -> u32 {
     let n = number(digits);
+    if n < 0x1_0000_0000 {
+        n as u32
+    } else {
+        0xffff_ffff
+    }
+}
+
+// A number of 16 bits; the largest for one that does not fit.
+pub fn half_word(n: u32) -> u16 {
     if n < 65536 { n as u16 } else { 65535 }
 }
 
@@ -67,23 +81,58 @@ pub fn least(a: usize, b: usize) -> usize
     if a < b { a } else { b }
 }
 
+// Puts a number so many times, as often as there is room, and gives the next place.
+fn repeat_word(n: u32, times: usize, out: &mut [u32], at: usize) -> usize
+    requires { ⌜ at ≤ length (now out) ⌝ }
+    ensures { λ r. ⌜ r ≤ length (now (out .exit)) ⌝ }
+{
+    let end = at + least(times, out.len() - at);
+    let mut i = at;
+    while i < end {
+        out[i] = n;
+        i += 1;
+    }
+    i
+}
+
+// Puts an item of a list, which is a number or, as `7x5`, a number and how often it stands there.
+fn put_item(item: &[u8], out: &mut [u32], at: usize) -> usize
+    requires { ⌜ at ≤ length (now out) ⌝ }
+    ensures { λ r. ⌜ r ≤ length (now (out .exit)) ⌝ }
+{
+    let sign = find(item, 0, b'x');
+    if sign < item.len() {
+        return repeat_word(word(&item[0..sign]), number(&item[sign + 1..]), out, at);
+    }
+    repeat_word(word(item), 1, out, at)
+}
+
 // Puts the numbers of a list at the start of `out`, as many as it has room for, and counts them.
-fn numbers(list: &[u8], out: &mut [u16]) -> usize
+fn numbers(list: &[u8], out: &mut [u32]) -> usize
     ensures { λ r. ⌜ r ≤ length (now (out .exit)) ⌝ }
 {
     let mut n = 0;
     let mut at = 0;
     while at < list.len() {
-        if n >= out.len() {
-            return n;
-        }
-        let end = find(list, at, b',');
         if list[at] == b'-' {
             return n;
         }
-        out[n] = small_number(&list[at..end]);
-        n += 1;
+        let end = find(list, at, b',');
+        n = put_item(&list[at..end], out, n);
         at = end + 1;
+    }
+    n
+}
+
+// The same numbers in 16 bits each, as many as there is room for.
+fn narrow(words: &[u32], out: &mut [u16]) -> usize
+    ensures { λ r. ⌜ r ≤ length (now (out .exit)) ⌝ }
+{
+    let n = least(words.len(), out.len());
+    let mut i = 0;
+    while i < n {
+        out[i] = half_word(words[i]);
+        i += 1;
     }
     n
 }
@@ -154,13 +203,29 @@ pub fn number_field(line: &[u8], k: usize) -> usize {
     number(&line[start..end])
 }
 
-pub fn numbers_field(line: &[u8], k: usize, out: &mut [u16]) -> usize
+pub fn word_field(line: &[u8], k: usize) -> u32 {
+    let part = field(line, k);
+    let start = part.start;
+    let end = part.end;
+    word(&line[start..end])
+}
+
+pub fn words_field(line: &[u8], k: usize, out: &mut [u32]) -> usize
     ensures { λ r. ⌜ r ≤ length (now (out .exit)) ⌝ }
 {
     let part = field(line, k);
     let start = part.start;
     let end = part.end;
     numbers(&line[start..end], out)
+}
+
+// Of at most 20,000 numbers.
+pub fn numbers_field(line: &[u8], k: usize, out: &mut [u16]) -> usize
+    ensures { λ r. ⌜ r ≤ length (now (out .exit)) ⌝ }
+{
+    let mut words = [0u32; 20000];
+    let n = words_field(line, k, &mut words);
+    narrow(&words[0..n], out)
 }
 
 pub fn text_field(line: &[u8], k: usize, out: &mut [u8]) -> usize
@@ -172,9 +237,19 @@ pub fn text_field(line: &[u8], k: usize, out: &mut [u8]) -> usize
     unpack(&line[start..end], out)
 }
 
+pub fn print_digits(n: usize) {
+    io::print_decimal(STDOUT_FILENO, n as u64);
+}
+
 pub fn print(n: usize) {
     io::write_all(STDOUT_FILENO, b" ");
-    io::print_decimal(STDOUT_FILENO, n as u64);
+    print_digits(n);
+}
+
+pub fn print_refused(number: usize, place: usize) {
+    io::write_all(STDOUT_FILENO, b"refused");
+    print(number);
+    print(place);
 }
 
 pub fn print_entries(array: &[u16], n: usize) {
@@ -199,6 +274,51 @@ pub fn print_bytes(array: &[u8], n: usize) {
     }
 }
 
+// Where the numbers end that are the same as the one at `from`.
+fn run_end(array: &[u32], from: usize) -> usize
+    requires { ⌜ from < length (now array) ⌝ }
+    ensures { λ r. ⌜ (from < r) × (r ≤ length (now (array .entry))) ⌝ }
+{
+    let mut i = from + 1;
+    while i < array.len() {
+        if array[i] != array[from] {
+            return i;
+        }
+        i += 1;
+    }
+    i
+}
+
+// Prints the item at `at`, so many of the same number as one from five on, and gives the next place.
+fn print_item(array: &[u32], at: usize) -> usize
+    requires { ⌜ at < length (now array) ⌝ }
+    ensures { λ r. ⌜ (at < r) × (r ≤ length (now (array .entry))) ⌝ }
+{
+    let end = run_end(array, at);
+    print_digits(word_entry(array[at]));
+    if end - at < 5 {
+        return at + 1;
+    }
+    io::write_all(STDOUT_FILENO, b"x");
+    print_digits(end - at);
+    end
+}
+
+// Prints a list as a case has it.
+pub fn print_list(array: &[u32]) {
+    io::write_all(STDOUT_FILENO, b" ");
+    if array.len() == 0 {
+        io::write_all(STDOUT_FILENO, b"-");
+    }
+    let mut at = 0;
+    while at < array.len() {
+        at = print_item(array, at);
+        if at < array.len() {
+            io::write_all(STDOUT_FILENO, b",");
+        }
+    }
+}
+
 // The length of array i, at most `most`.
 pub fn space(spaces: &[u16], i: usize, most: usize) -> usize
     ensures { λ r. ⌜ r ≤ most ⌝ }
@@ -211,7 +331,7 @@ pub fn space(spaces: &[u16], i: usize, most: usize) -> usize
 }
 
 // Moves the bytes from `from` to `end` to the start, and counts them.
-pub fn move_down(buffer: &mut [u8], from: usize, end: usize) -> usize
+fn move_down(buffer: &mut [u8], from: usize, end: usize) -> usize
     requires { ⌜ (from ≤ end) × (end ≤ length (now buffer)) ⌝ }
     ensures { λ r. ⌜ r ≤ length (now (buffer .exit)) ⌝ }
 {
@@ -221,4 +341,36 @@ pub fn move_down(buffer: &mut [u8], from: usize, end: usize) -> usize
         i += 1;
     }
     end - from
+}
+
+// A line of the input: where it starts and ends in the buffer, and how many bytes the buffer holds. One that ends with them is no
+// whole line.
+pub struct Line {
+    pub start: usize,
+    pub end: usize,
+    pub held: usize,
+}
+
+// The line from `from` on, in a buffer that holds so many bytes. Where they end before it does, they are moved to the start and the
+// buffer is filled.
+pub fn next_line(buffer: &mut [u8], from: usize, held: usize) -> Line
+    requires { ⌜ (from ≤ held) × (held ≤ length (now buffer)) ⌝ }
+    ensures { λ r. ⌜ (r .start ≤ r .end) × (r .end ≤ r .held) × (r .held ≤ length (now (buffer .exit))) ⌝ }
+{
+    let end = find(&buffer[0..held], from, b'\n');
+    if end < held {
+        return Line {
+            start: from,
+            end,
+            held,
+        };
+    }
+    let kept = move_down(buffer, from, held);
+    let more = io::read_full(libc::STDIN_FILENO, &mut buffer[kept..]);
+    let all = kept + more;
+    Line {
+        start: 0,
+        end: find(&buffer[0..all], 0, b'\n'),
+        held: all,
+    }
 }

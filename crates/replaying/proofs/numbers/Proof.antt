@@ -2,8 +2,7 @@
 use borrow.Author.Needs.{needs}
 use Prim.Native.Nat.{_-_, _≤_}
 use mathlib.Core.Path.{_≡_}
-use native.Mathlib.Omega.{arith}
-use lib.ListN.{length, length-set}
+use lib.ListN.{length}
 use Rattle.replaying.proofs.numbers.Statement.{statement}
 use Rattle.replaying.proofs.numbers.Tie as tie
 
@@ -16,6 +15,9 @@ abbrev μ-loop : tie.MeasureT-loop
 loop-holds : tie.Need-loop-holds Inv-loop μ-loop
 loop-holds c = search needs
 
+shared-slice-read-if1 : tie.Need-shared-slice-read-if1 Inv-loop μ-loop
+shared-slice-read-if1 c = search needs
+
 same-length : tie.Need-same-length Inv-loop μ-loop
 same-length c = search needs
 
@@ -25,35 +27,17 @@ returns c = search needs
 find-requires : tie.Need-find-requires Inv-loop μ-loop
 find-requires c κs = search needs
 
-shared-slice-read-if2 : tie.Need-shared-slice-read-if2 Inv-loop μ-loop
-shared-slice-read-if2 c = search needs
+sub-put-item : tie.Need-sub-put-item Inv-loop μ-loop
+sub-put-item c = search needs
 
-same-length-2 : tie.Need-same-length-2 Inv-loop μ-loop
-same-length-2 c = search needs
+part-put-item-start : tie.Need-part-put-item-start Inv-loop μ-loop
+part-put-item-start c = search needs
 
-returns-2 : tie.Need-returns-2 Inv-loop μ-loop
-returns-2 c = search needs
+part-put-item-end : tie.Need-part-put-item-end Inv-loop μ-loop
+part-put-item-end c = search needs
 
-sub-small-number : tie.Need-sub-small-number Inv-loop μ-loop
-sub-small-number c = search needs
-
-part-small-number-start : tie.Need-part-small-number-start Inv-loop μ-loop
-part-small-number-start c = search needs
-
-part-small-number-end : tie.Need-part-small-number-end Inv-loop μ-loop
-part-small-number-end c = search needs
-
-small-number-requires : tie.Need-small-number-requires Inv-loop μ-loop
-small-number-requires c κs = search needs
-
-mul-out : tie.Need-mul-out Inv-loop μ-loop
-mul-out c = search needs
-
-slice-write-out : tie.Need-slice-write-out Inv-loop μ-loop
-slice-write-out c = search needs
-
-add-n : tie.Need-add-n Inv-loop μ-loop
-add-n c = search needs
+put-item-requires : tie.Need-put-item-requires Inv-loop μ-loop
+put-item-requires c κs = search needs
 
 add-at : tie.Need-add-at Inv-loop μ-loop
 add-at c = search needs
@@ -62,13 +46,13 @@ loop-less : tie.Need-loop-less Inv-loop μ-loop
 loop-less c = search needs
 
 loop-again : tie.Need-loop-again Inv-loop μ-loop
-loop-again c = (simp length-set (omega arith), simp length-set (omega arith))
+loop-again c = search needs
 
-same-length-3 : tie.Need-same-length-3 Inv-loop μ-loop
-same-length-3 c = search needs
+same-length-2 : tie.Need-same-length-2 Inv-loop μ-loop
+same-length-2 c = search needs
 
-returns-3 : tie.Need-returns-3 Inv-loop μ-loop
-returns-3 c = search needs
+returns-2 : tie.Need-returns-2 Inv-loop μ-loop
+returns-2 c = search needs
 
 pub numbers-spec : {M : Type 1} → statement M
 numbers-spec =
@@ -77,21 +61,16 @@ numbers-spec =
     Inv-loop
     μ-loop
     loop-holds
+    shared-slice-read-if1
     same-length
     returns
     find-requires
-    shared-slice-read-if2
-    same-length-2
-    returns-2
-    sub-small-number
-    part-small-number-start
-    part-small-number-end
-    small-number-requires
-    mul-out
-    slice-write-out
-    add-n
+    sub-put-item
+    part-put-item-start
+    part-put-item-end
+    put-item-requires
     add-at
     loop-less
     loop-again
-    same-length-3
-    returns-3)
+    same-length-2
+    returns-2)

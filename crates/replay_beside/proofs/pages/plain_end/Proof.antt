@@ -1,21 +1,24 @@
--- `replay_text::find` meets its contract: it stays within the slice.
-use Prim.Native.Nat.{_-_, _≤_}
+-- `replay_beside::pages::plain_end` is safe and ends.
 use borrow.Author.Needs.{needs}
+use Prim.Native.Nat.{_-_, _≤_}
 use lib.ListN.{length}
-use Rattle.replay_text.proofs.find.Statement.{statement}
-use Rattle.replay_text.proofs.find.Tie as tie
+use Rattle.replay_beside.proofs.pages.plain_end.Statement.{statement}
+use Rattle.replay_beside.proofs.pages.plain_end.Tie as tie
 
 abbrev Inv-loop : tie.InvT-loop
-Inv-loop s from stop i₀ i = (from ≤ i) × (i ≤ length s)
+Inv-loop bytes from i₀ i = (from ≤ i) × (i ≤ length bytes)
 
 abbrev μ-loop : tie.MeasureT-loop
-μ-loop s from stop i₀ i = length s - i
+μ-loop bytes from i₀ i = length bytes - i
 
 loop-holds : tie.Need-loop-holds Inv-loop μ-loop
 loop-holds c = search needs
 
-shared-slice-read-if1 : tie.Need-shared-slice-read-if1 Inv-loop μ-loop
-shared-slice-read-if1 c = search needs
+shared-slice-read-is-plain : tie.Need-shared-slice-read-is-plain Inv-loop μ-loop
+shared-slice-read-is-plain c = search needs
+
+is-plain-requires : tie.Need-is-plain-requires Inv-loop μ-loop
+is-plain-requires c κs = search needs
 
 returns : tie.Need-returns Inv-loop μ-loop
 returns c = search needs
@@ -32,14 +35,15 @@ loop-again c = search needs
 returns-2 : tie.Need-returns-2 Inv-loop μ-loop
 returns-2 c = search needs
 
-pub find-spec : {M : Type 1} → statement M
-find-spec =
+pub plain-end-spec : {M : Type 1} → statement M
+plain-end-spec =
     tie.close
     (tie.spec
     Inv-loop
     μ-loop
     loop-holds
-    shared-slice-read-if1
+    shared-slice-read-is-plain
+    is-plain-requires
     returns
     add-i
     loop-less

@@ -1,8 +1,11 @@
--- `replay_layout::answer_with` is safe and ends.
-use Rattle.replaying.proofs.PartLaws.{part-kept}
+-- `replay_layout::answer` is safe and ends.
 use borrow.Author.Needs.{needs}
-use Rattle.replay_layout.proofs.answer_with.Statement.{statement}
-use Rattle.replay_layout.proofs.answer_with.Tie as tie
+use Rattle.replaying.proofs.PartLaws.{part-kept}
+use Rattle.replay_layout.proofs.answer.Statement.{statement}
+use Rattle.replay_layout.proofs.answer.Tie as tie
+
+space-requires : tie.Need-space-requires
+space-requires c κs = search needs
 
 sub-layout : tie.Need-sub-layout
 sub-layout c = search needs
@@ -11,7 +14,10 @@ part-glyphs-start : tie.Need-part-glyphs-start
 part-glyphs-start c = search needs
 
 part-glyphs-end : tie.Need-part-glyphs-end
-part-glyphs-end c = c .before .before .before .pre .0
+part-glyphs-end c = search needs
+
+space-requires-2 : tie.Need-space-requires-2
+space-requires-2 c κs = search needs
 
 sub-layout-2 : tie.Need-sub-layout-2
 sub-layout-2 c = search needs
@@ -20,7 +26,10 @@ part-offsets-start : tie.Need-part-offsets-start
 part-offsets-start c = search needs
 
 part-offsets-end : tie.Need-part-offsets-end
-part-offsets-end c = c .before .before .before .before .pre .1
+part-offsets-end c = search needs
+
+space-requires-3 : tie.Need-space-requires-3
+space-requires-3 c κs = search needs
 
 sub-layout-3 : tie.Need-sub-layout-3
 sub-layout-3 c = search needs
@@ -29,7 +38,10 @@ part-down-start : tie.Need-part-down-start
 part-down-start c = search needs
 
 part-down-end : tie.Need-part-down-end
-part-down-end c = c .before .before .before .before .before .pre .2
+part-down-end c = search needs
+
+space-requires-4 : tie.Need-space-requires-4
+space-requires-4 c κs = search needs
 
 sub-layout-4 : tie.Need-sub-layout-4
 sub-layout-4 c = search needs
@@ -38,7 +50,10 @@ part-right-start : tie.Need-part-right-start
 part-right-start c = search needs
 
 part-right-end : tie.Need-part-right-end
-part-right-end c = c .before .before .before .before .before .before .pre .3
+part-right-end c = search needs
+
+space-requires-5 : tie.Need-space-requires-5
+space-requires-5 c κs = search needs
 
 sub-layout-5 : tie.Need-sub-layout-5
 sub-layout-5 c = search needs
@@ -47,7 +62,10 @@ part-rects-start : tie.Need-part-rects-start
 part-rects-start c = search needs
 
 part-rects-end : tie.Need-part-rects-end
-part-rects-end c = c .before .before .before .before .before .before .before .pre .4
+part-rects-end c = search needs
+
+space-requires-6 : tie.Need-space-requires-6
+space-requires-6 c κs = search needs
 
 sub-layout-6 : tie.Need-sub-layout-6
 sub-layout-6 c = search needs
@@ -56,7 +74,10 @@ part-cols-start : tie.Need-part-cols-start
 part-cols-start c = search needs
 
 part-cols-end : tie.Need-part-cols-end
-part-cols-end c = c .before .before .before .before .before .before .before .before .pre .5
+part-cols-end c = search needs
+
+space-requires-7 : tie.Need-space-requires-7
+space-requires-7 c κs = search needs
 
 sub-layout-7 : tie.Need-sub-layout-7
 sub-layout-7 c = search needs
@@ -65,7 +86,10 @@ part-rows-start : tie.Need-part-rows-start
 part-rows-start c = search needs
 
 part-rows-end : tie.Need-part-rows-end
-part-rows-end c = c .before .before .before .before .before .before .before .before .before .pre .6
+part-rows-end c = search needs
+
+space-requires-8 : tie.Need-space-requires-8
+space-requires-8 c κs = search needs
 
 sub-layout-8 : tie.Need-sub-layout-8
 sub-layout-8 c = search needs
@@ -74,7 +98,10 @@ part-cells-start : tie.Need-part-cells-start
 part-cells-start c = search needs
 
 part-cells-end : tie.Need-part-cells-end
-part-cells-end c = c .before .before .before .before .before .before .before .before .before .before .pre .7
+part-cells-end c = search needs
+
+space-requires-9 : tie.Need-space-requires-9
+space-requires-9 c κs = search needs
 
 sub-layout-9 : tie.Need-sub-layout-9
 sub-layout-9 c = search needs
@@ -83,22 +110,22 @@ part-ranges-start : tie.Need-part-ranges-start
 part-ranges-start c = search needs
 
 part-ranges-end : tie.Need-part-ranges-end
-part-ranges-end c = c .before .before .before .before .before .before .before .before .before .before .before .pre .8
+part-ranges-end c = search needs
 
 layout-requires : tie.Need-layout-requires
 layout-requires c κs = search needs
 
 slice-aggregate-print-answer : tie.Need-slice-aggregate-print-answer
-slice-aggregate-print-answer c = search part-kept
+slice-aggregate-print-answer c = search (part-kept, c .before .before .before .before .cols2 .given)
 
 slice-aggregate-print-answer-2 : tie.Need-slice-aggregate-print-answer-2
-slice-aggregate-print-answer-2 c = search part-kept
+slice-aggregate-print-answer-2 c = search (part-kept, c .before .before .before .before .rows2 .given)
 
 slice-aggregate-print-answer-3 : tie.Need-slice-aggregate-print-answer-3
-slice-aggregate-print-answer-3 c = search part-kept
+slice-aggregate-print-answer-3 c = search (part-kept, c .before .before .before .before .cells2 .given)
 
 slice-aggregate-print-answer-4 : tie.Need-slice-aggregate-print-answer-4
-slice-aggregate-print-answer-4 c = search part-kept
+slice-aggregate-print-answer-4 c = search (part-kept, c .before .before .before .before .ranges2 .given)
 
 print-answer-requires : tie.Need-print-answer-requires
 print-answer-requires c κs = search needs
@@ -106,34 +133,43 @@ print-answer-requires c κs = search needs
 returns : tie.Need-returns
 returns c = search needs
 
-pub answer-with-spec : {M : Type 1} → statement M
-answer-with-spec =
+pub answer-spec : {M : Type 1} → statement M
+answer-spec =
     tie.close
     (tie.spec
+    space-requires
     sub-layout
     part-glyphs-start
     part-glyphs-end
+    space-requires-2
     sub-layout-2
     part-offsets-start
     part-offsets-end
+    space-requires-3
     sub-layout-3
     part-down-start
     part-down-end
+    space-requires-4
     sub-layout-4
     part-right-start
     part-right-end
+    space-requires-5
     sub-layout-5
     part-rects-start
     part-rects-end
+    space-requires-6
     sub-layout-6
     part-cols-start
     part-cols-end
+    space-requires-7
     sub-layout-7
     part-rows-start
     part-rows-end
+    space-requires-8
     sub-layout-8
     part-cells-start
     part-cells-end
+    space-requires-9
     sub-layout-9
     part-ranges-start
     part-ranges-end

@@ -1,8 +1,11 @@
--- `replay_table::answer_with` is safe and ends.
-use Rattle.replaying.proofs.PartLaws.{part-kept}
+-- `replay_table::answer` is safe and ends.
 use borrow.Author.Needs.{needs}
-use Rattle.replay_table.proofs.answer_with.Statement.{statement}
-use Rattle.replay_table.proofs.answer_with.Tie as tie
+use Rattle.replaying.proofs.PartLaws.{part-kept}
+use Rattle.replay_table.proofs.answer.Statement.{statement}
+use Rattle.replay_table.proofs.answer.Tie as tie
+
+space-requires : tie.Need-space-requires
+space-requires c κs = search needs
 
 sub-table : tie.Need-sub-table
 sub-table c = search needs
@@ -11,7 +14,10 @@ part-glyphs-start : tie.Need-part-glyphs-start
 part-glyphs-start c = search needs
 
 part-glyphs-end : tie.Need-part-glyphs-end
-part-glyphs-end c = c .before .before .before .pre .0 .0
+part-glyphs-end c = search needs
+
+space-requires-2 : tie.Need-space-requires-2
+space-requires-2 c κs = search needs
 
 sub-table-2 : tie.Need-sub-table-2
 sub-table-2 c = search needs
@@ -20,7 +26,10 @@ part-offsets-start : tie.Need-part-offsets-start
 part-offsets-start c = search needs
 
 part-offsets-end : tie.Need-part-offsets-end
-part-offsets-end c = c .before .before .before .before .pre .0 .1
+part-offsets-end c = search needs
+
+space-requires-3 : tie.Need-space-requires-3
+space-requires-3 c κs = search needs
 
 sub-table-3 : tie.Need-sub-table-3
 sub-table-3 c = search needs
@@ -29,7 +38,10 @@ part-down-start : tie.Need-part-down-start
 part-down-start c = search needs
 
 part-down-end : tie.Need-part-down-end
-part-down-end c = c .before .before .before .before .before .pre .0 .2
+part-down-end c = search needs
+
+space-requires-4 : tie.Need-space-requires-4
+space-requires-4 c κs = search needs
 
 sub-table-4 : tie.Need-sub-table-4
 sub-table-4 c = search needs
@@ -38,7 +50,10 @@ part-right-start : tie.Need-part-right-start
 part-right-start c = search needs
 
 part-right-end : tie.Need-part-right-end
-part-right-end c = c .before .before .before .before .before .before .pre .0 .3
+part-right-end c = search needs
+
+space-requires-5 : tie.Need-space-requires-5
+space-requires-5 c κs = search needs
 
 sub-table-5 : tie.Need-sub-table-5
 sub-table-5 c = search needs
@@ -47,7 +62,10 @@ part-rects-start : tie.Need-part-rects-start
 part-rects-start c = search needs
 
 part-rects-end : tie.Need-part-rects-end
-part-rects-end c = c .before .before .before .before .before .before .before .pre .0 .4
+part-rects-end c = search needs
+
+space-requires-6 : tie.Need-space-requires-6
+space-requires-6 c κs = search needs
 
 sub-table-6 : tie.Need-sub-table-6
 sub-table-6 c = search needs
@@ -56,7 +74,10 @@ part-starts-start : tie.Need-part-starts-start
 part-starts-start c = search needs
 
 part-starts-end : tie.Need-part-starts-end
-part-starts-end c = c .before .before .before .before .before .before .before .before .pre .0 .5
+part-starts-end c = search needs
+
+space-requires-7 : tie.Need-space-requires-7
+space-requires-7 c κs = search needs
 
 sub-table-7 : tie.Need-sub-table-7
 sub-table-7 c = search needs
@@ -65,7 +86,10 @@ part-counts-start : tie.Need-part-counts-start
 part-counts-start c = search needs
 
 part-counts-end : tie.Need-part-counts-end
-part-counts-end c = c .before .before .before .before .before .before .before .before .before .pre .0 .6
+part-counts-end c = search needs
+
+space-requires-8 : tie.Need-space-requires-8
+space-requires-8 c κs = search needs
 
 sub-table-8 : tie.Need-sub-table-8
 sub-table-8 c = search needs
@@ -74,7 +98,10 @@ part-cols-start : tie.Need-part-cols-start
 part-cols-start c = search needs
 
 part-cols-end : tie.Need-part-cols-end
-part-cols-end c = c .before .before .before .before .before .before .before .before .before .before .pre .1 .0
+part-cols-end c = search needs
+
+space-requires-9 : tie.Need-space-requires-9
+space-requires-9 c κs = search needs
 
 sub-table-9 : tie.Need-sub-table-9
 sub-table-9 c = search needs
@@ -83,7 +110,10 @@ part-sections-start : tie.Need-part-sections-start
 part-sections-start c = search needs
 
 part-sections-end : tie.Need-part-sections-end
-part-sections-end c = c .before .before .before .before .before .before .before .before .before .before .before .pre .1 .1
+part-sections-end c = search needs
+
+space-requires-10 : tie.Need-space-requires-10
+space-requires-10 c κs = search needs
 
 sub-table-10 : tie.Need-sub-table-10
 sub-table-10 c = search needs
@@ -92,7 +122,10 @@ part-cells-start : tie.Need-part-cells-start
 part-cells-start c = search needs
 
 part-cells-end : tie.Need-part-cells-end
-part-cells-end c = c .before .before .before .before .before .before .before .before .before .before .before .before .pre .1 .2
+part-cells-end c = search needs
+
+space-requires-11 : tie.Need-space-requires-11
+space-requires-11 c κs = search needs
 
 sub-table-11 : tie.Need-sub-table-11
 sub-table-11 c = search needs
@@ -101,7 +134,10 @@ part-out-lengths-start : tie.Need-part-out-lengths-start
 part-out-lengths-start c = search needs
 
 part-out-lengths-end : tie.Need-part-out-lengths-end
-part-out-lengths-end c = c .before .before .before .before .before .before .before .before .before .before .before .before .before .pre .1 .3
+part-out-lengths-end c = search needs
+
+space-requires-12 : tie.Need-space-requires-12
+space-requires-12 c κs = search needs
 
 sub-table-12 : tie.Need-sub-table-12
 sub-table-12 c = search needs
@@ -110,7 +146,7 @@ part-out-text-start : tie.Need-part-out-text-start
 part-out-text-start c = search needs
 
 part-out-text-end : tie.Need-part-out-text-end
-part-out-text-end c = c .before .before .before .before .before .before .before .before .before .before .before .before .before .before .pre .1 .4
+part-out-text-end c = search needs
 
 table-requires : tie.Need-table-requires
 table-requires c κs = search needs
@@ -136,43 +172,55 @@ print-answer-requires c κs = search needs
 returns : tie.Need-returns
 returns c = search needs
 
-pub answer-with-spec : {M : Type 1} → statement M
-answer-with-spec =
+pub answer-spec : {M : Type 1} → statement M
+answer-spec =
     tie.close
     (tie.spec
+    space-requires
     sub-table
     part-glyphs-start
     part-glyphs-end
+    space-requires-2
     sub-table-2
     part-offsets-start
     part-offsets-end
+    space-requires-3
     sub-table-3
     part-down-start
     part-down-end
+    space-requires-4
     sub-table-4
     part-right-start
     part-right-end
+    space-requires-5
     sub-table-5
     part-rects-start
     part-rects-end
+    space-requires-6
     sub-table-6
     part-starts-start
     part-starts-end
+    space-requires-7
     sub-table-7
     part-counts-start
     part-counts-end
+    space-requires-8
     sub-table-8
     part-cols-start
     part-cols-end
+    space-requires-9
     sub-table-9
     part-sections-start
     part-sections-end
+    space-requires-10
     sub-table-10
     part-cells-start
     part-cells-end
+    space-requires-11
     sub-table-11
     part-out-lengths-start
     part-out-lengths-end
+    space-requires-12
     sub-table-12
     part-out-text-start
     part-out-text-end

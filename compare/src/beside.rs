@@ -1,10 +1,10 @@
 //! `compare beside`: the calls beside the round trip (positions, line ends,
 //! shares and the page) held against the Rust and the second reading.
 
-mod ends;
-mod pages;
-mod positions;
-mod shares;
+pub mod ends;
+pub mod pages;
+pub mod positions;
+pub mod shares;
 
 use std::thread;
 

@@ -1,6 +1,7 @@
 //! `compare lists`: fixed lists of cases with their answers, for programs
 //! that replay them.
 
+mod beside;
 mod layout;
 mod redraw;
 mod table;
@@ -10,7 +11,7 @@ use std::io;
 use std::path::Path;
 
 use crate::make::{Rng, text};
-use crate::paper::set;
+use crate::paper::{Refusal, set};
 use crate::parser::TAB_STOP;
 use crate::parser::grid_table::{is_rule, trim_end};
 use crate::print::hex;
@@ -32,7 +33,18 @@ pub fn write(folder: &Path) -> io::Result<()> {
     list.write(&folder.join("replay_table"))?;
     let mut list = List::default();
     redraw::cases(&mut list);
-    list.write(&folder.join("replay_redraw"))
+    list.write(&folder.join("replay_redraw"))?;
+    let mut list = List::default();
+    beside::cases(&mut list);
+    beside::print_counts(&list);
+    list.write(&folder.join("replay_beside"))
+}
+
+/// A large number that the lists' programs read whole.
+const FAR: usize = 99_999_999_999_999_999;
+
+fn refused(refusal: Refusal) -> String {
+    format!("refused {} {}", refusal.number, refusal.place)
 }
 
 /// One case a line, one answer a line.

@@ -13,10 +13,8 @@ mod given;
 mod html;
 mod library;
 mod lists;
-mod make;
 mod nodes;
 mod options;
-mod paper;
 mod parser;
 mod print;
 mod speed;
@@ -27,6 +25,9 @@ include!(concat!(env!("OUT_DIR"), "/arena_tree_mod.rs"));
 // The given files name these at the crate's root.
 pub(crate) use nodes::node_matches;
 pub use options::Options;
+// The second reading, a crate of its own.
+use ::paper;
+use paper::make;
 
 use std::io;
 use std::path::Path;

@@ -84,8 +84,8 @@ pub fn redraw() -> io::Result<()> {
     let mut input = vec![];
     io::stdin().lock().read_to_end(&mut input)?;
     let sheet = listing::sheet_of(&input);
-    let redrawn = cut::read_table(&sheet)
-        .and_then(|table| redraw::redraw(&table, 0, redraw::Space::ENOUGH));
+    let redrawn =
+        cut::read_table(&sheet).and_then(|table| redraw::redraw(&table, 0, redraw::Space::ENOUGH));
     let printed = match redrawn {
         Ok(drawn) => {
             let rust = given::draw(&given::table(&sheet).unwrap(), 0);
@@ -119,7 +119,7 @@ pub fn page(widths: bool) -> io::Result<()> {
 }
 
 /// A table for the page, its cells' lines escaped and parted by line breaks.
-fn escaped(table: &Table) -> PageTable {
+pub fn escaped(table: &Table) -> PageTable {
     let mut lines = table.all_lines().into_iter();
     let inner: Vec<Vec<u8>> = (table.places.iter())
         .map(|p| {

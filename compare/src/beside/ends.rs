@@ -60,7 +60,7 @@ impl fmt::Debug for Given {
     }
 }
 
-fn entry(number: usize) -> u32 {
+pub fn entry(number: usize) -> u32 {
     u32::try_from(number).unwrap()
 }
 
@@ -69,10 +69,10 @@ fn entries((line, start, eol): End) -> LineEnd {
 }
 
 /// Around the limits, and far past them.
-const FAR: [usize; 6] = [0, 1, 65_534, 65_535, 65_536, u32::MAX as usize];
+pub const FAR: [usize; 6] = [0, 1, 65_534, 65_535, 65_536, u32::MAX as usize];
 
 /// An end out of a few numbers; at times one that adding refuses.
-fn any_end(rng: &mut Rng, numbers: &Numbers, lines: usize) -> End {
+pub fn any_end(rng: &mut Rng, numbers: &Numbers, lines: usize) -> End {
     match rng.below(10) {
         0 => (rng.pick(&FAR), rng.pick(&FAR), rng.pick(&FAR)),
         1 => {
@@ -84,7 +84,7 @@ fn any_end(rng: &mut Rng, numbers: &Numbers, lines: usize) -> End {
 }
 
 /// A line and a column, most often at an end or just beside it.
-fn any_place(rng: &mut Rng, numbers: &Numbers, ends: &[End]) -> (usize, usize) {
+pub fn any_place(rng: &mut Rng, numbers: &Numbers, ends: &[End]) -> (usize, usize) {
     if rng.once_in(16) {
         return (rng.pick(&FAR), rng.pick(&FAR));
     }

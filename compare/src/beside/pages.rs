@@ -63,7 +63,7 @@ impl Expected {
 }
 
 /// The Rust's page where the second reading accepts; none where they disagree.
-fn answer(tally: &mut Tally, flat: &FlatPage, widths: bool) -> Option<Answer<Vec<u8>>> {
+pub fn answer(tally: &mut Tally, flat: &FlatPage, widths: bool) -> Option<Answer<Vec<u8>>> {
     let Some(table) = flat.table() else {
         return Some(refuse(13, 0));
     };

@@ -39,11 +39,11 @@ struct Run {
 }
 
 /// A drawing with the number and the table byte of each line.
-#[derive(Debug)]
-struct Given<'s> {
-    sheet: &'s Sheet,
-    numbers: Vec<u32>,
-    table_bytes: Vec<u32>,
+#[derive(Clone, Debug)]
+pub struct Given<'s> {
+    pub sheet: &'s Sheet,
+    pub numbers: Vec<u32>,
+    pub table_bytes: Vec<u32>,
 }
 
 /// Lengths of working space and of the two output arrays.
@@ -101,7 +101,7 @@ impl Expected {
     }
 }
 
-fn four(position: Position) -> [u32; 4] {
+pub fn four(position: Position) -> [u32; 4] {
     let (line, column, end_line, end_column) = position;
     [line, column, end_line, end_column].map(|n| u32::try_from(n).unwrap())
 }
@@ -129,7 +129,7 @@ fn cell_reply(answer: Answer<Position>) -> CellPositionReply {
 
 /// The Rust's positions where the second reading accepts; none where they
 /// disagree.
-fn answer(given: &Given<'_>) -> Option<Answer<Positions>> {
+pub fn answer(given: &Given<'_>) -> Option<Answer<Positions>> {
     let sizes = |array: &[u32]| -> Vec<usize> { array.iter().map(|&n| n as usize).collect() };
     let (numbers, bytes) = (sizes(&given.numbers), sizes(&given.table_bytes));
     match positions::positions(given.sheet, &numbers, &bytes, Space::ENOUGH) {
@@ -143,7 +143,7 @@ fn answer(given: &Given<'_>) -> Option<Answer<Positions>> {
 }
 
 /// A number for each line: few, any, or around the limit.
-fn numbers(rng: &mut Rng, lines: usize) -> Vec<u32> {
+pub fn numbers(rng: &mut Rng, lines: usize) -> Vec<u32> {
     let most = limits::REGISTER_NUMBER;
     let (low, high) = rng.pick(&[(0, 0), (0, 3), (0, most), (most - 3, most), (most, most)]);
     let rising = rng.once_in(2) && low + lines <= most;

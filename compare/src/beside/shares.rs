@@ -12,7 +12,7 @@ use crate::paper::table::Place;
 use crate::tally::Tally;
 
 /// What 127 columns of 128 have together.
-const MOST_TOTAL: usize = limits::COLUMNS * limits::WIDTH;
+pub const MOST_TOTAL: usize = limits::COLUMNS * limits::WIDTH;
 
 /// All widths of all totals, and shares at random past them.
 pub fn run(mut rng: Rng, n: usize) -> Tally {
@@ -35,7 +35,7 @@ pub fn run(mut rng: Rng, n: usize) -> Tally {
 }
 
 /// A width and a total; some whose hundredths lie at a half, or near one.
-fn random(rng: &mut Rng) -> (usize, usize) {
+pub fn random(rng: &mut Rng) -> (usize, usize) {
     let width = match rng.below(3) {
         0 => rng.below(limits::WIDTH + 1),
         _ => rng.below(65_536),
@@ -51,7 +51,7 @@ fn random(rng: &mut Rng) -> (usize, usize) {
 }
 
 /// A row of empty cells in columns of these widths.
-fn row(widths: &[usize]) -> PageTable {
+pub fn row(widths: &[usize]) -> PageTable {
     let columns = widths.len();
     let place = |column: usize| Place {
         row: 0,
@@ -83,7 +83,7 @@ fn shares_on(page: &[u8]) -> impl Iterator<Item = f64> {
 }
 
 /// The Rust's share, where there can be columns of this total.
-fn rust_share(width: usize, total: usize) -> Option<f64> {
+pub fn rust_share(width: usize, total: usize) -> Option<f64> {
     let rest = total.checked_sub(width).filter(|_| total > 0)?;
     shares_on(&given::page(&row(&[width, rest]), true)).next()
 }

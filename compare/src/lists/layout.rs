@@ -2,7 +2,7 @@
 //! neighbours in their order, the limits, tabs at every origin, and drawings
 //! of every kind.
 
-use super::List;
+use super::{List, refused};
 use crate::given;
 use crate::make::sheets::{self, Lines, even};
 use crate::make::text::{self, Kind};
@@ -25,7 +25,9 @@ const ENTRIES: [usize; 4] = [2, 3, 5, 2];
 
 pub fn cases(list: &mut List) {
     papers(list);
-    orders(list);
+    for (sheet, room) in orders() {
+        list.layout(&sheet, spaces(room, ENOUGH, WORKING));
+    }
     sizes(list);
     outputs(list);
     for sheet in at_limits().iter().chain(&tabs()) {
@@ -58,7 +60,7 @@ impl List {
         );
         let answer = match answer(sheet, spaces) {
             Ok(layout) => format!("accepted{}", numbers(&layout)),
-            Err(refusal) => format!("refused {} {}", refusal.number, refusal.place),
+            Err(refusal) => refused(refusal),
         };
         self.add(case, answer);
     }
@@ -143,7 +145,7 @@ fn papers(list: &mut List) {
         };
         let answered = match answer(&sheet, ENOUGH) {
             Ok(layout) => listing::listed(&layout),
-            Err(refusal) => format!("refused {} {}\n", refusal.number, refusal.place),
+            Err(refusal) => refused(refusal) + "\n",
         };
         assert_eq!(answered, expected);
         list.layout(&sheet, ENOUGH);
@@ -161,51 +163,67 @@ fn bytes(lines: &[&[u8]]) -> Sheet {
     Sheet::of(&lines)
 }
 
+/// How much space a call gets.
+#[derive(Clone, Copy)]
+pub enum Room {
+    Enough,
+    NoOutput,
+    Nothing,
+}
+
 /// Inputs on which a check and the next one of the order both hold. No lines
 /// and a limit passed is missing: sizes that agree leave nothing to pass one.
-fn orders(list: &mut List) {
-    let none = Spaces::default();
-    let no_output = {
-        let mut spaces = ENOUGH;
-        spaces[WORKING..].fill(0);
-        spaces
-    };
-    // 13 and 1, by sizes and by space.
-    let mut sheet = edge::sheet(&[]);
-    sheet.bytes = 1;
-    list.layout(&sheet, ENOUGH);
-    sheet.lengths = vec![0];
-    list.layout(&sheet, ENOUGH);
-    list.layout(&edge::sheet(&[]), none);
-    // 13 and 12.
-    list.layout(&edge::sheet(&["+-+", "+-+"]), none);
-    // 2 and 3.
-    list.layout(&bytes(&[&[0xC3; 513]]), ENOUGH);
-    list.layout(&bytes(&[&b"\x80"[..]; 129]), ENOUGH);
-    list.layout(&bytes(&[&[0xFF; 256][..]; 128]), ENOUGH);
-    list.layout(&bytes(&[&[0xFF; 257][..]; 128]), ENOUGH);
-    list.layout(&Sheet::of(&[(b"\r".to_vec(), 256)]), ENOUGH);
-    // 3 and 4.
-    list.layout(&bytes(&[b"x", b"\x80"]), ENOUGH);
-    list.layout(&bytes(&[b"\xED\xA0\x80", b"+-+"]), ENOUGH);
-    list.lines(&["++", "++", "\u{A0}"]);
-    // 4 and a width past 128.
+pub fn orders() -> Vec<(Sheet, Room)> {
+    let mut contradictory = edge::sheet(&[]);
+    contradictory.bytes = 1;
+    let mut without = contradictory.clone();
+    without.lengths = vec![0];
     let long = format!("+{}", "-".repeat(128));
-    list.lines(&[&long]);
-    list.lines(&[&format!("{long}x"), "x"]);
-    // The width and 5.
     let wide = format!("+{}+", "-".repeat(127));
-    list.lines(&[&wide, "x"]);
-    list.lines(&[&wide, ""]);
-    // 5 and 6, 5 and 7.
-    list.lines(&["+-+", "x"]);
-    list.lines(&["+-+", "   ", "+-++"]);
-    let mut lines = even(33, 32, 1, 1);
-    lines.push((b"+".to_vec(), 0));
-    list.layout(&Sheet::of(&lines), ENOUGH);
-    // 6 and 12, 7 and 12.
-    list.layout(&edge::sheet(&["+-+", "| |"]), no_output);
-    list.layout(&Sheet::of(&even(33, 32, 1, 1)), no_output);
+    let mut many = even(33, 32, 1, 1);
+    many.push((b"+".to_vec(), 0));
+    vec![
+        // 13 and 1, by sizes and by space.
+        (contradictory, Room::Enough),
+        (without, Room::Enough),
+        (edge::sheet(&[]), Room::Nothing),
+        // 13 and 12.
+        (edge::sheet(&["+-+", "+-+"]), Room::Nothing),
+        // 2 and 3.
+        (bytes(&[&[0xC3; 513]]), Room::Enough),
+        (bytes(&[&b"\x80"[..]; 129]), Room::Enough),
+        (bytes(&[&[0xFF; 256][..]; 128]), Room::Enough),
+        (bytes(&[&[0xFF; 257][..]; 128]), Room::Enough),
+        (Sheet::of(&[(b"\r".to_vec(), 256)]), Room::Enough),
+        // 3 and 4.
+        (bytes(&[b"x", b"\x80"]), Room::Enough),
+        (bytes(&[b"\xED\xA0\x80", b"+-+"]), Room::Enough),
+        (edge::sheet(&["++", "++", "\u{A0}"]), Room::Enough),
+        // 4 and a width past 128.
+        (edge::sheet(&[&long]), Room::Enough),
+        (edge::sheet(&[&format!("{long}x"), "x"]), Room::Enough),
+        // The width and 5.
+        (edge::sheet(&[&wide, "x"]), Room::Enough),
+        (edge::sheet(&[&wide, ""]), Room::Enough),
+        // 5 and 6, 5 and 7.
+        (edge::sheet(&["+-+", "x"]), Room::Enough),
+        (edge::sheet(&["+-+", "   ", "+-++"]), Room::Enough),
+        (Sheet::of(&many), Room::Enough),
+        // 6 and 12, 7 and 12.
+        (edge::sheet(&["+-+", "| |"]), Room::NoOutput),
+        (Sheet::of(&even(33, 32, 1, 1)), Room::NoOutput),
+    ]
+}
+
+/// The lengths of the arrays, of which the first are working space.
+pub fn spaces<const N: usize>(room: Room, enough: [usize; N], working: usize) -> [usize; N] {
+    let mut spaces = enough;
+    match room {
+        Room::Enough => {}
+        Room::NoOutput => spaces[working..].fill(0),
+        Room::Nothing => spaces.fill(0),
+    }
+    spaces
 }
 
 /// 13: a sheet, and sheets whose sizes the arrays contradict.

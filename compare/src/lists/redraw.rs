@@ -2,8 +2,8 @@
 //! of them at once, the limits, every origin, short arrays, and tables of every
 //! kind.
 
-use super::List;
 use super::layout::{commas, packed};
+use super::{FAR, List, refused};
 use crate::draws::answers;
 use crate::library::DRAW_SPACE;
 use crate::make::tables::{self, even};
@@ -81,7 +81,7 @@ fn line(flat: &Flat, origin: usize, spaces: Spaces) -> (String, String) {
     });
     let answer = match answer(flat, origin, spaces) {
         Ok(drawn) => accepted(&drawn),
-        Err(refusal) => format!("refused {} {}", refusal.number, refusal.place),
+        Err(refusal) => refused(refusal),
     };
     (words.join(" "), answer)
 }
@@ -193,9 +193,6 @@ fn orders(list: &mut List) {
         }
     }
 }
-
-/// A large number that the lists' programs read whole.
-const FAR: usize = 99_999_999_999_999_999;
 
 /// 13: sizes that the arrays contradict, numbers that are no alignment or
 /// section, and each working space one short, and empty; before 1.

@@ -1,8 +1,8 @@
 //! The cases of the table call: the papers' sheets, each refusal, the limits,
 //! tabs at every origin, spans, and drawings of every kind.
 
-use super::List;
 use super::layout::{at_limits, commas, contradictions, packed, tabs};
+use super::{List, refused};
 use crate::given;
 use crate::make::sheets::{self, even};
 use crate::make::{Rng, edge};
@@ -62,7 +62,7 @@ impl List {
         );
         let answer = match answer(sheet, spaces) {
             Ok(table) => format!("accepted{}", numbers(&table)),
-            Err(refusal) => format!("refused {} {}", refusal.number, refusal.place),
+            Err(refusal) => refused(refusal),
         };
         self.add(case, answer);
     }
@@ -107,12 +107,44 @@ fn answer(sheet: &Sheet, spaces: Spaces) -> Result<Table, Refusal> {
 /// and wide characters at a border, in cells of every span.
 fn blanks() -> Vec<Sheet> {
     let drawings: [&[&str]; 6] = [
-        &["+----+----+", "|    | a  |", "|    |    |", "| b  |    |", "|    |    |", "+----+----+"],
-        &["+----+----+", "|\ta|  b |", "|\t|\tc|", "+----+    |", "| d  |    |", "+----+----+"],
-        &["+----+", "|\u{301}a   |", "|\u{4E2D}\u{4E2D}|", "| \u{301}   |", "|    |", "+----+"],
+        &[
+            "+----+----+",
+            "|    | a  |",
+            "|    |    |",
+            "| b  |    |",
+            "|    |    |",
+            "+----+----+",
+        ],
+        &[
+            "+----+----+",
+            "|\ta|  b |",
+            "|\t|\tc|",
+            "+----+    |",
+            "| d  |    |",
+            "+----+----+",
+        ],
+        &[
+            "+----+",
+            "|\u{301}a   |",
+            "|\u{4E2D}\u{4E2D}|",
+            "| \u{301}   |",
+            "|    |",
+            "+----+",
+        ],
         &["+-+-+", "+-+ |", "| +-+", "| | |", "+-+-+"],
-        &["+--+--+--+", "|a b  |c |", "|     |  |", "+--+--+d |", "|e |f |  |", "|  +--+--+", "|  |g    |", "+--+-----+"],
-        &["+---+", "| a |", "+===+", "|   |", "| b |", "+===+", "| c |", "+===+"],
+        &[
+            "+--+--+--+",
+            "|a b  |c |",
+            "|     |  |",
+            "+--+--+d |",
+            "|e |f |  |",
+            "|  +--+--+",
+            "|  |g    |",
+            "+--+-----+",
+        ],
+        &[
+            "+---+", "| a |", "+===+", "|   |", "| b |", "+===+", "| c |", "+===+",
+        ],
     ];
     drawings.iter().map(|lines| edge::sheet(lines)).collect()
 }

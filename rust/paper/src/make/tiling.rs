@@ -1,8 +1,8 @@
 //! Tilings of a grid with spanning cells, and sections for their rows.
 
 use super::Rng;
-use crate::paper::layout::{BODY, FOOT, HEAD};
-use crate::paper::table::Place;
+use crate::layout::{BODY, FOOT, HEAD};
+use crate::table::Place;
 
 /// A tiling that keeps the grid rules, with at most this many rows and
 /// columns.

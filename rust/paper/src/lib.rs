@@ -1,5 +1,6 @@
 //! Document 01 read a second time, in plain code: what each call answers, with
-//! refusal number and place, from its flat arguments.
+//! refusal number and place, from its flat arguments; and `make`, inputs from a
+//! seed. It needs neither the Rust nor the proved library.
 
 pub mod cut;
 pub mod draw;
@@ -9,6 +10,7 @@ pub mod flat_page;
 pub mod layout;
 pub mod limits;
 pub mod listing;
+pub mod make;
 pub mod page;
 pub mod positions;
 pub mod redraw;

@@ -4,9 +4,9 @@
 use super::sheets::Lines;
 use super::text::{self, Kind};
 use super::{Rng, tiling};
-use crate::paper::draw::{Plan, lines_of};
-use crate::paper::layout::NONE;
-use crate::paper::table::{Place, Table};
+use crate::draw::{Plan, lines_of};
+use crate::layout::NONE;
+use crate::table::{Place, Table};
 
 /// Signs that go on a border there, with marks and without.
 const BARS: [&str; 7] = [

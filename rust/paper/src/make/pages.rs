@@ -1,7 +1,7 @@
 //! Tables for the page, their inner bytes no text.
 
 use super::{Rng, tables};
-use crate::paper::page::PageTable;
+use crate::page::PageTable;
 
 pub fn table(rng: &mut Rng) -> PageTable {
     let (table, _) = tables::table(rng);

@@ -1,9 +1,9 @@
 //! The papers' own cases, with the answers that they name.
 
 use super::sheets::even;
-use crate::paper::layout::{BODY, FOOT, HEAD, LEFT, NONE};
-use crate::paper::sheet::Sheet;
-use crate::paper::table::{Place, Table};
+use crate::layout::{BODY, FOOT, HEAD, LEFT, NONE};
+use crate::sheet::Sheet;
+use crate::table::{Place, Table};
 
 /// The listing, its lines parted by `;`, or refusal number and place.
 pub type Listed = Result<&'static str, (usize, usize)>;

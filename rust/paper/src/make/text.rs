@@ -1,7 +1,7 @@
 //! Characters and lines of text.
 
 use super::Rng;
-use crate::paper::set;
+use crate::set;
 
 /// Signs of drawings, letters, marks, wide characters, tabs.
 const MIXED: [char; 24] = [

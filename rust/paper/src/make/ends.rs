@@ -1,7 +1,7 @@
 //! Line ends, registers and fragments.
 
 use super::Rng;
-use crate::paper::ends::End;
+use crate::ends::End;
 
 /// What their numbers are between: a few, many, or those at the limit.
 pub struct Numbers {

@@ -3,9 +3,9 @@
 
 use super::text::{self, Kind};
 use super::{Rng, edge, tiling};
-use crate::paper::limits;
-use crate::paper::sheet::Sheet;
-use crate::paper::table::Place;
+use crate::limits;
+use crate::sheet::Sheet;
+use crate::table::Place;
 
 pub type Lines = Vec<(Vec<u8>, usize)>;
 
@@ -65,6 +65,7 @@ fn edges(rng: &mut Rng, count: usize, least: usize, most: usize) -> Vec<usize> {
 
 /// The tiling drawn on these column and row lines, with separators, colons
 /// and text.
+#[allow(clippy::needless_range_loop)]
 fn paint(rng: &mut Rng, places: &[Place], xs: &[usize], ys: &[usize], kind: Kind) -> Lines {
     let (width, height) = (xs[xs.len() - 1] + 1, ys[ys.len() - 1] + 1);
     // A blank slot is inside a cell.

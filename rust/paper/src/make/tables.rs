@@ -2,9 +2,9 @@
 
 use super::text::{self, Kind};
 use super::{Rng, tiling};
-use crate::paper::draw::Plan;
-use crate::paper::layout::NONE;
-use crate::paper::table::{Place, Table};
+use crate::draw::Plan;
+use crate::layout::NONE;
+use crate::table::{Place, Table};
 
 /// A table of any kind with the origin of its drawing.
 pub fn table(rng: &mut Rng) -> (Table, usize) {

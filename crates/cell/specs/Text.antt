@@ -1,7 +1,7 @@
 -- Document 01, "Cutting": the lines of a table read, from the arrays that reading a drawing leaves.
 use Prim.Native.Nat.{ℕ, _+_, _*_, _≤_, _<_}
 use mathlib.Core.Path.{_≡_}
-use mathlib.Core.List.{List, [], map, flatMap, List·Memᴰ}
+use mathlib.Core.List.{List, map, flatMap, List·Memᴰ}
 use lib.ListN.{length, getD, take}
 use Rattle.seq.specs.Lists.{sum}
 use Rattle.grid.specs.Limits.{maxBytes}

@@ -18,7 +18,6 @@ use trace::count::count;
 use trace::trace;
 ghost use Prim.Native.Nat.{_≤_, _<_};
 ghost use mathlib.Core.Path.{_≡_};
-ghost use mathlib.Core.List.{[]};
 ghost use lib.ListN.{length, getD};
 ghost use Rattle.seq.specs.Lists.{sum};
 ghost use Rattle.text.specs.Trim.{trimEnd};

@@ -19,7 +19,7 @@ use Rattle.grid.specs.Answer.{accept}
 use Rattle.grid.specs.Limits.{maxRegister}
 use Rattle.grid.proofs.ReadLaws.{passed-if}
 use Rattle.sourcepos.specs.declared.CellLineEnd.{CellLineEnd}
-use Rattle.sourcepos.specs.LineEndCalls.{registerRoom, Register, register, registerContradicts, endAt, endsOf, badEnd, endTooLarge, addAnswer, addAfterwards}
+use Rattle.sourcepos.specs.LineEndCalls.{registerRoom, Register, registerContradicts, endAt, endsOf, badEnd, endTooLarge, addAnswer, addAfterwards}
 
 -- ---- an end that passed the tests of its numbers
 pub good-numbers : (e : CellLineEnd) → badEnd e ≡ false → (e .line ≡ 0 → ⊥) × (e .start ≡ 0 → ⊥)

@@ -20,7 +20,6 @@ use Rattle.seq.proofs.Gathered.{range-step, select-append}
 use Rattle.seq.proofs.Positions.{getD-map}
 use Rattle.grid.specs.Values.{TableCell, Table}
 use Rattle.grid.specs.Flat.{codeSection, everyNth}
-use Rattle.grid.specs.declared.GridTableSection.{GridTableSection}
 use Rattle.grid.specs.declared.GridTableSection.the-variants.{Body}
 use Rattle.html.specs.Page.{sectionTag, opening, closing, newLine, whenEdge, sectionOf, opensSection, closesSection, cellPage, rowPage}
 use Rattle.html.specs.PageCall.{pageCells}

@@ -11,7 +11,7 @@ use borrow.Author.Tests.{lt-ltb, le-ltb}
 use Rattle.seq.specs.Lists.{range, select}
 use Rattle.sourcepos.specs.declared.CellLineEnd.{CellLineEnd}
 use Rattle.sourcepos.specs.LineEnds.{reaches, isLater, later, lastEnd}
-use Rattle.sourcepos.specs.LineEndCalls.{Register, register, endAt, endsOf}
+use Rattle.sourcepos.specs.LineEndCalls.{Register, endAt, endsOf}
 use Rattle.line_ends.specs.Search.{lastAt, Held}
 
 -- ---- the later of two

@@ -108,7 +108,8 @@ fn write_sizes(
     out_lengths: &mut [u16],
     out_columns: &mut [u16],
 )
-    requires { ⌜ (height ≤ 128) × (length (sizes .lengths) ≡ 128) × (origin ≤ 255) × (any (λ n. ltb 512 n) (take height (sizes .lengths)) ≡ false) ⌝ }
+    requires { ⌜ (height ≤ 128) × (length (sizes .lengths) ≡ 128) × (origin ≤ 255)
+        × (any (λ n. ltb 512 n) (take height (sizes .lengths)) ≡ false) ⌝ }
     requires { ⌜ (height ≤ length (now «out_lengths»)) × (height ≤ length (now «out_columns»)) ⌝ }
     ensures { λ _.
         ⌜ (now («out_lengths» .exit) ≡ over (take height (sizes .lengths)) (now («out_lengths» .entry)))
@@ -245,7 +246,8 @@ pub fn draw_sized(
         let p = plan columns rows n heads foots (now (cols .entry)) (now (cells .entry)) xs ys marks in
         let before = drawingLent (now («out_lengths» .entry)) (now («out_columns» .entry)) (now («out_text» .entry)) in
         let after = drawingLent (now («out_lengths» .exit)) (now («out_columns» .exit)) (now («out_text» .exit)) in
-        ⌜ ((v : Canvas) → Sketched v p → Texted v (now (text .entry)) (now (starts .entry)) (now (ends .entry)) (now (firsts .entry)) (now (heights .entry))
+        ⌜ ((v : Canvas) → Sketched v p
+        → Texted v (now (text .entry)) (now (starts .entry)) (now (ends .entry)) (now (firsts .entry)) (now (heights .entry))
         → (answerOf r ≡ lateSizes v origin before) × (after ≡ lateArrays v origin before)) ⌝ }
 {
     let right = xs[columns];

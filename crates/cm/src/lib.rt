@@ -43,7 +43,8 @@ fn space_short(
     canvas: usize,
 ) -> bool
     ensures { λ r.
-        ⌜ r ≡ redrawSpaceShort (record { starts = starts; ends = ends; firsts = firsts; heights = heights; wides = wides; rects = rects; canvas = canvas }) ⌝ }
+        ⌜ r ≡ redrawSpaceShort
+        (record { starts = starts; ends = ends; firsts = firsts; heights = heights; wides = wides; rects = rects; canvas = canvas }) ⌝ }
 {
     (starts < MAX_TABLE_LINES)
         | (ends < MAX_TABLE_LINES)

@@ -105,7 +105,8 @@ fn split_column(
     lines: usize,
     hits: Hits,
 ) -> bool
-    requires { ⌜ (top < 128) × (bottom < 128) × (left < right) × (right < 128) × (slotSpace ≤ length (now canvas)) × (length (hits .lines) ≡ 128) ⌝ }
+    requires { ⌜ (top < 128) × (bottom < 128) × (left < right) × (right < 128)
+        × (slotSpace ≤ length (now canvas)) × (length (hits .lines) ≡ 128) ⌝ }
     ensures { λ r.
         let rect : Rect = record { top = top; left = left; bottom = bottom; right = right } in
         ⌜ r ≡ splitColumn (now (canvas .entry)) rect lines (hits .lines) ⌝ }

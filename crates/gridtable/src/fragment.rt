@@ -7,7 +7,7 @@ use text::Column;
 ghost use mathlib.Core.Path.{_≡_};
 ghost use Rattle.grid.specs.CutCall.{cutNumbersAnswer};
 ghost use Rattle.replies.specs.CutReply.{cutReplyOf};
-ghost use Rattle.gridtable.specs.Given.{lineGiven, rangeGiven};
+ghost use Rattle.fragments.specs.View.{lineGiven, rangeGiven};
 
 // cut::cell_fragment.
 #[no_mangle]

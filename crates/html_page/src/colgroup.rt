@@ -62,7 +62,8 @@ fn render_col(share: Share, out: &mut [u8], at: usize) -> usize
 fn render_cols(columns: usize, cols: &[u16], total: u32, out: &mut [u8], at: usize) -> usize
     requires { ⌜ (length (now cols) ≡ 2 * columns) × (columns ≤ 127) × (at ≤ 65536) ⌝ }
     ensures { λ r.
-        ⌜ Wrote (now (out .entry)) at (flatMap (colOf total) (columnsOfArray columns (now (cols .entry)))) (now (out .exit)) r × (r ≤ at + 64 * columns) ⌝ }
+        ⌜ Wrote (now (out .entry)) at (flatMap (colOf total) (columnsOfArray columns (now (cols .entry)))) (now (out .exit)) r
+        × (r ≤ at + 64 * columns) ⌝ }
 {
     let mut end = at;
     let mut k = 0;
@@ -81,7 +82,8 @@ pub fn render_colgroup(
     at: usize,
 ) -> usize
     requires { ⌜ (length (now cols) ≡ 2 * columns) × (columns ≤ 127) × (at ≤ 32768) ⌝ }
-    ensures { λ r. ⌜ Wrote (now (out .entry)) at (columnGroup widths (columnsOfArray columns (now (cols .entry)))) (now (out .exit)) r × (r ≤ at + 16384) ⌝ }
+    ensures { λ r.
+        ⌜ Wrote (now (out .entry)) at (columnGroup widths (columnsOfArray columns (now (cols .entry)))) (now (out .exit)) r × (r ≤ at + 16384) ⌝ }
 {
     if !widths {
         return at;

@@ -30,8 +30,10 @@ fn page_table(
     text: &[u8],
     out: &mut [u8],
 ) -> usize
-    requires { ⌜ tableContradicts (tableGiven columns rows n lines bytes) (tableLent (now cols) (now sections) (now cells) (now lengths) (now text)) ≡ false ⌝ }
-    requires { ⌜ tableEmpty (tableOfArrays (tableGiven columns rows n lines bytes) (tableLent (now cols) (now sections) (now cells) (now lengths) (now text))) ≡ false ⌝ }
+    requires { let t = tableLent (now cols) (now sections) (now cells) (now lengths) (now text) in
+        ⌜ tableContradicts (tableGiven columns rows n lines bytes) t ≡ false ⌝ }
+    requires { let t = tableLent (now cols) (now sections) (now cells) (now lengths) (now text) in
+        ⌜ tableEmpty (tableOfArrays (tableGiven columns rows n lines bytes) t) ≡ false ⌝ }
     requires { ⌜ (n ≤ 1024) × (lines ≤ 16384) × (bytes ≤ 32768) × (196608 ≤ length (now out)) ⌝ }
     ensures { λ r.
         let table = tableLent (now (cols .entry)) (now (sections .entry)) (now (cells .entry)) (now (lengths .entry)) (now (text .entry)) in

@@ -31,7 +31,8 @@ fn draw_lines(
     out_lengths: &mut [u16],
     out_text: &mut [u8],
 ) -> RedrawAnswer
-    requires { ⌜ tableContradicts (tableGiven columns rows n lines bytes) (tableLent (now cols) (now sections) (now cells) (now lengths) (now text)) ≡ false ⌝ }
+    requires { let t = tableLent (now cols) (now sections) (now cells) (now lengths) (now text) in
+        ⌜ tableContradicts (tableGiven columns rows n lines bytes) t ≡ false ⌝ }
     requires { ⌜ (length (now «out_lengths») ≡ 128) × (length (now «out_text») ≡ 32768) ⌝ }
     ensures { λ r.
         let table = tableLent (now (cols .entry)) (now (sections .entry)) (now (cells .entry)) (now (lengths .entry)) (now (text .entry)) in
@@ -85,7 +86,8 @@ fn redraw_table(
     text: &[u8],
     out: &mut [u8],
 ) -> usize
-    requires { ⌜ tableContradicts (tableGiven columns rows n lines bytes) (tableLent (now cols) (now sections) (now cells) (now lengths) (now text)) ≡ false ⌝ }
+    requires { let t = tableLent (now cols) (now sections) (now cells) (now lengths) (now text) in
+        ⌜ tableContradicts (tableGiven columns rows n lines bytes) t ≡ false ⌝ }
     requires { ⌜ 131072 ≤ length (now out) ⌝ }
     ensures { λ r.
         let table = tableLent (now (cols .entry)) (now (sections .entry)) (now (cells .entry)) (now (lengths .entry)) (now (text .entry)) in

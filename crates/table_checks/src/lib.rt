@@ -55,7 +55,8 @@ pub fn check_table(
         let t = arrays (now (cols .entry)) (now (sections .entry)) (now (cells .entry)) (now (lengths .entry)) (now (text .entry)) in
         ⌜ ((next : Answer (List Line)) → afterChecks r next ≡ refuseIf (tableContradicts s t) 13 (checkTable origin (tableOfArrays s t) next))
         × (r ≡ Fine → Tabled origin columns n (now (cols .entry)) (now (sections .entry)) (now (cells .entry)) (now (lengths .entry)) (now (text .entry)))
-        × (r ≡ Fine → (rows ≡ length (now (sections .entry))) × (lines ≡ length (now (lengths .entry))) × (bytes ≡ length (now (text .entry)))) ⌝ }
+        × (r ≡ Fine → (rows ≡ length (now (sections .entry))) × (lines ≡ length (now (lengths .entry)))
+        × (bytes ≡ length (now (text .entry)))) ⌝ }
 {
     if contradicts(
         columns,

@@ -1,10 +1,9 @@
 -- Document 01, refusal 3: "not UTF-8, or a character outside the set".
 use Prim.Native.Nat.{ℕ, zero, suc, _+_, _-_, _*_}
-use mathlib.Core.Path.{_≡_}
 use mathlib.Core.Bool.{Bool, true, false, _&&_, cond}
 use mathlib.Core.List.{List, [], _∷_}
 use lib.Dec.{leb, ltb}
-use lib.ListN.{drop, getD}
+use lib.ListN.{getD}
 use Rattle.seq.specs.Lists.{within}
 use Rattle.text.specs.Characters.{inSet}
 use Rattle.text.specs.declared.Decoded.{Decoded}
@@ -42,10 +41,6 @@ decoded a b c =
 
 unfoldable pub character : List ℕ → Decoded
 character s = decoded (getD s 0 0) (getD s 1 0) (getD s 2 0)
-
--- `size` bytes at a place are a character of the set, unless size is 0
-abbrev pub Sized : List ℕ → ℕ → ℕ → Type 0
-Sized s at size = (size ≡ 0 → ⊥) → (v : ℕ) × (character (drop at s) ≡ Character v size)
 
 -- a character's number and the byte at which it starts, as Rust's char_indices gives them
 pub record CharIndex : Type 0 where

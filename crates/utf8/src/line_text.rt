@@ -9,7 +9,8 @@ ghost use Prim.Native.Nat.{_<_};
 ghost use mathlib.Core.Path.{_≡_};
 ghost use lib.ListN.{length};
 ghost use Rattle.seq.specs.Lists.{within as withinOf};
-ghost use Rattle.text.specs.Utf8.{Sized, wellFormed, plain};
+ghost use Rattle.text.specs.Utf8.{wellFormed, plain};
+ghost use Rattle.utf8.specs.Common.{Sized};
 
 fn is_plain_byte(b: u8) -> bool
     ensures { λ r. ⌜ r ≡ withinOf 0x20 0x7e b ⌝ }

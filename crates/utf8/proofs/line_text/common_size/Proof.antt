@@ -1,6 +1,6 @@
 -- `utf8::line_text::common_size` meets its contract, by the first byte's range.
 use mathlib.Core.Path.{refl}
-use Rattle.text.proofs.CommonLaws.{common-ascii, common-narrow, common-mark, common-han}
+use Rattle.utf8.proofs.CommonLaws.{common-ascii, common-narrow, common-mark, common-han}
 use borrow.Author.Needs.{needs}
 use Rattle.utf8.proofs.line_text.common_size.Statement.{statement}
 use Rattle.utf8.proofs.line_text.common_size.Tie as tie

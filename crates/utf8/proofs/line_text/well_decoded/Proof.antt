@@ -5,7 +5,7 @@ use borrow.Author.Needs.{needs}
 use lib.ListN.{length, drop}
 use Rattle.text.specs.Utf8.{wellFrom, wellFormed}
 use Rattle.text.proofs.Utf8Laws.{well-on, end-inside, end-fits, fewer-left, ill-formed, well-to-the-end}
-use Rattle.text.proofs.CommonLaws.{sized-on, sized-inside, sized-fits, sized-left}
+use Rattle.utf8.proofs.CommonLaws.{sized-on, sized-inside, sized-fits, sized-left}
 use Rattle.utf8.proofs.line_text.well_decoded.Statement.{statement}
 use Rattle.utf8.proofs.line_text.well_decoded.Tie as tie
 

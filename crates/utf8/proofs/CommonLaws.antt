@@ -9,12 +9,13 @@ use lib.Dec.{leb}
 use lib.ListN.{length, drop, getD}
 use Rattle.seq.specs.Lists.{within}
 use Rattle.seq.proofs.ListsLaws.{within-in, within-above}
 use Rattle.text.specs.declared.Decoded.the-variants.{Character}
 use Rattle.text.specs.Characters.{takesTwo, inSet}
-use Rattle.text.specs.Utf8.{Sized, continues, twoBytes, threeBytes, wellFrom, wellFormed}
+use Rattle.text.specs.Utf8.{continues, twoBytes, threeBytes, wellFrom, wellFormed}
 use Rattle.text.proofs.CharactersLaws.{ascii-in-set, set-of-two, set-of-three}
 use Rattle.text.proofs.Utf8Laws.{from-two-is, from-three-is, character-one, character-two, character-three, size-fits, well-next}
 use Rattle.text.proofs.KnownLaws.{between}
+use Rattle.utf8.specs.Common.{Sized}
 
 or-last : (t u : Bool) → (t || (u || true)) ≡ true
 or-last true u = refl

@@ -2,6 +2,7 @@
 pub mod fill;
 pub mod glyphs;
 pub mod line;
+pub mod map;
 pub mod reach;
 
 // The part separators: the first count entries are their lines.

@@ -8,6 +8,7 @@ use native.Mathlib.Omega.{arith}
 use lib.Dec.{ltb}
 use lib.ListN.{length}
 use Rattle.seq.specs.Lists.{isEmpty}
+use Rattle.text.specs.declared.Column.{Column}
 use Rattle.grid.specs.Answer.{Answer, accept, refuse, refuseIf, refuseAt}
 use Rattle.grid.specs.Limits.{maxWidth}
 use Rattle.grid.specs.Values.{Rect}
@@ -22,7 +23,7 @@ use Rattle.representation.specs.Sheet.{Sheet}
 use Rattle.reading.specs.declared.Measured.{Measured}
 use Rattle.reading.specs.declared.Measured.the-variants.{Width, Refused}
 use Rattle.reading.specs.declared.Outcome.{Outcome}
-use Rattle.reading.specs.Call.{checkedOf, Through, Reading}
+use Rattle.reading.specs.Call.{checkedOf, Through, SheetArrays, sheetOf, Reading}
 use Rattle.reading.proofs.WidthLaws.{sheet-passed, bytes-few, width-told, width-fits, rooms}
 
 -- ---- no refusal has number 0
@@ -48,9 +49,9 @@ width-numbered d =
     (if-numbered (noRule (linesOf d)) 4 _ (λ z. omega arith)
     (if-numbered (ltb maxWidth width) 2 (accept width) (λ z. omega arith) (λ n place e z. let clash : _≡_ {A = ℕ} 0 1 = cc in omega arith))))))
 
-module _ (lengths columns text glyphs offsets rects : List ℕ) (s : Outcome) where
+module _ (sheet : SheetArrays) (s : Outcome) where
   pub refused-by : {a : Answer (List Rect)} {number place : ℕ} → a ≡ refuse number place → (number ≡ 0 → ⊥) → (s .number ≡ number) × (s .place ≡ place) × (s .cells ≡ 0)
-      → Reading a lengths columns text glyphs offsets rects s
+      → Reading a sheet s
   refused-by e nonzero told =
       record {
         refused = λ n. rw (told .0, told .1) e;
@@ -59,44 +60,44 @@ module _ (lengths columns text glyphs offsets rects : List ℕ) (s : Outcome) wh
       }
 
   module _ (w : LayoutSpace) (d : FlatDrawing) (b : Bool) (short : b ≡ spaceShort w) where
-    pub without-space : b ≡ true → (s .number ≡ 13) × (s .place ≡ 0) × (s .cells ≡ 0) → Reading (rectsAnswer w d) lengths columns text glyphs offsets rects s
+    pub without-space : b ≡ true → (s .number ≡ 13) × (s .place ≡ 0) × (s .cells ≡ 0) → Reading (rectsAnswer w d) sheet s
     without-space is-short told = refused-by (short-rects w d (sym short ∙ is-short)) (λ z. omega arith) told
 
     pub without-width : b ≡ false → (m : Measured) (number place : ℕ) → m ≡ Refused number place → checkedOf m ≡ widthAnswer d
-        → (s .number ≡ number) × (s .place ≡ place) × (s .cells ≡ 0) → Reading (rectsAnswer w d) lengths columns text glyphs offsets rects s
+        → (s .number ≡ number) × (s .place ≡ place) × (s .cells ≡ 0) → Reading (rectsAnswer w d) sheet s
     without-width enough m number place is e told =
         let answered : refuse number place ≡ widthAnswer d = rw is at e in
         refused-by (unwide-rects w d (sym short ∙ enough) answered) (width-numbered d number place (sym answered)) told
 
 -- ---- a drawing whose width is answered, in space enough
 module _ (lines bytes : ℕ) (lengths columns text glyphs₀ offsets₀ down right rects₀ : List ℕ) (b : Bool) (short : b ≡ spaceShort (spaces glyphs₀ offsets₀ down right rects₀)) (enough : b ≡ false)
-    (m : Measured) (width : ℕ) (is : m ≡ Width width) (e : checkedOf m ≡ widthAnswer (drawing lines bytes lengths columns text)) where
-  answered : accept width ≡ widthAnswer (drawing lines bytes lengths columns text)
+    (m : Measured) (width : Column) (is : m ≡ Width width) (e : checkedOf m ≡ widthAnswer (drawing lines bytes lengths columns text)) where
+  answered : accept (width .0) ≡ widthAnswer (drawing lines bytes lengths columns text)
   answered = rw is at e
 
   sheet : Sheet lengths columns text
-  sheet = sheet-passed lines bytes lengths columns text width answered
+  sheet = sheet-passed lines bytes lengths columns text (width .0) answered
 
   room : (slotSpace ≤ length glyphs₀) × (slotSpace ≤ length offsets₀) × (slotSpace ≤ length down) × (slotSpace ≤ length right) × (rectSpace ≤ length rects₀)
   room = rooms glyphs₀ offsets₀ down right rects₀ (sym short ∙ enough)
 
-  pub traceable : Sheet lengths columns text × (Roomy (length lengths) width glyphs₀ offsets₀
-      × (((slotSpace ≤ length down) × (slotSpace ≤ length right) × (rectSpace ≤ length rects₀)) × (width ≡ length (trimmedAt (linesFrom lengths columns text) 0))))
+  pub traceable : Sheet lengths columns text × (Roomy (length lengths) (width .0) glyphs₀ offsets₀
+      × (((slotSpace ≤ length down) × (slotSpace ≤ length right) × (rectSpace ≤ length rects₀)) × (width .0 ≡ length (trimmedAt (linesFrom lengths columns text) 0))))
   traceable = (
     sheet,
     (
-      record { heightFits = sheet .fewLines; widthFits = width-fits lines bytes lengths columns text width answered; glyphRoom = room .0; offsetRoom = room .1 },
-      ((room .2, room .3, room .4), width-told lines bytes lengths columns text width answered),
+      record { heightFits = sheet .fewLines; widthFits = width-fits lines bytes lengths columns text (width .0) answered; glyphRoom = room .0; offsetRoom = room .1 },
+      ((room .2, room .3, room .4), width-told lines bytes lengths columns text (width .0) answered),
     ),
   )
 
-  told : width ≡ gridOf (linesFrom lengths columns text) .width
+  told : width .0 ≡ gridOf (linesFrom lengths columns text) .width
   unfolding gridOf
-  told = width-told lines bytes lengths columns text width answered
+  told = width-told lines bytes lengths columns text (width .0) answered
 
   pub traced : (glyphs offsets rects : List ℕ) (s : Outcome) → ((length glyphs ≡ length glyphs₀) × (length offsets ≡ length offsets₀) × (length rects ≡ length rects₀))
       × Through (gridOf (linesFrom lengths columns text)) glyphs offsets rects s
-      → Reading (rectsAnswer (spaces glyphs₀ offsets₀ down right rects₀) (drawing lines bytes lengths columns text)) lengths columns text glyphs offsets rects s
+      → Reading (rectsAnswer (spaces glyphs₀ offsets₀ down right rects₀) (drawing lines bytes lengths columns text)) (sheetOf lengths columns text glyphs offsets rects) s
   unfolding linesOf
   traced glyphs offsets rects s (kept, through) =
       let grid = wide-rects (spaces glyphs₀ offsets₀ down right rects₀) (drawing lines bytes lengths columns text) (sym short ∙ enough) answered in
@@ -105,11 +106,11 @@ module _ (lines bytes : ℕ) (lengths columns text glyphs₀ offsets₀ down rig
         accepted = λ z. grid ∙ through .accepted z;
         traced = λ z. record {
           sheet = sheet;
-          fewBytes = bytes-few lines bytes lengths columns text width answered;
+          fewBytes = bytes-few lines bytes lengths columns text (width .0) answered;
           roomy =
               record {
                 heightFits = sheet .fewLines;
-                widthFits = omega (arith, through .wide, told, width-fits lines bytes lengths columns text width answered);
+                widthFits = omega (arith, through .wide, told, width-fits lines bytes lengths columns text (width .0) answered);
                 glyphRoom = rw (kept .0) (room .0);
                 offsetRoom = rw (kept .1) (room .1);
               };

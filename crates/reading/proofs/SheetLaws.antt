@@ -10,7 +10,6 @@ use Rattle.seq.specs.Lists.{sum}
 use Rattle.grid.specs.Answer.{accept}
 use Rattle.grid.specs.Values.{Rect, noLine}
 use Rattle.grid.specs.Slots.{gridOf, trimmedAt}
-use Rattle.grid.specs.Flat.{linesFrom}
 use Rattle.representation.specs.LayoutParts.{gridAnswer}
 use Rattle.representation.specs.Arrays.{rectsOf, Holds}
 use Rattle.grid.proofs.SlotLaws.{lines-length, line-at}
@@ -19,7 +18,7 @@ use Rattle.representation.specs.LayoutEntries.{Inside}
 use Rattle.grid.specs.Cover.{Cover}
 use Rattle.representation.proofs.AgreeLaws.{Laid}
 use Rattle.representation.proofs.TracedLaws.{inside, laid, cover}
-use Rattle.reading.specs.Call.{TracedSheet}
+use Rattle.reading.specs.Call.{SheetArrays, linesIn, rectsIn, TracedSheet}
 use Rattle.reading.specs.declared.Outcome.{Outcome}
 
 -- rectangles inside 128 by 128 have entries below 128
@@ -34,50 +33,52 @@ rects-small (suc n) rects all (suc (suc (suc (suc i)))) h =
     let at : 4 + i ≡ suc (suc (suc (suc i))) = omega arith in
     rw at at (rw getD-drop at (rects-small n (drop 4 rects) (λ r m. all r (List·Memᴰ·tail m)) i (omega (arith, mul-suc 4 n))))
 
-module _ (lengths columns text glyphs offsets rects : List ℕ) (o : Outcome) (t : TracedSheet lengths columns text glyphs offsets rects o) where
-  pub accepted : gridAnswer (gridOf (linesFrom lengths columns text)) ≡ accept (rectsOf (o .cells) rects)
-  accepted = t .through .accepted (t .complete)
+-- ---- a traced drawing
+module _ (a : SheetArrays) (o : Outcome) (t : TracedSheet a o) where
+  pub traced-accepted : gridAnswer (gridOf (linesIn a)) ≡ accept (rectsIn a (o .cells))
+  traced-accepted = t .through .accepted (t .complete)
 
-  pub held : Holds (gridOf (linesFrom lengths columns text) .rows) (gridOf (linesFrom lengths columns text) .width) glyphs offsets
-  held = t .through .held (t .complete)
+  pub traced-holds : Holds (gridOf (linesIn a) .rows) (gridOf (linesIn a) .width) (a .glyphs) (a .offsets)
+  traced-holds = t .through .held (t .complete)
 
-  pub count : length (linesFrom lengths columns text) ≡ length lengths
-  count = lines-length lengths columns text
+  pub traced-lines : length (linesIn a) ≡ length (a .lengths)
+  traced-lines = lines-length (a .lengths) (a .columns) (a .text)
 
-  pub tall : gridOf (linesFrom lengths columns text) .height ≡ length lengths
+  pub traced-height : gridOf (linesIn a) .height ≡ length (a .lengths)
   unfolding gridOf
-  tall = count
+  traced-height = traced-lines
 
-  pub across : gridOf (linesFrom lengths columns text) .width ≡ o .width
-  across = sym (t .through .wide)
+  pub traced-width : gridOf (linesIn a) .width ≡ o .width .0
+  traced-width = sym (t .through .wide)
 
-  pub wide : o .width ≡ length (trimmedAt (linesFrom lengths columns text) 0)
+  pub traced-rule : o .width .0 ≡ length (trimmedAt (linesIn a) 0)
   unfolding gridOf
-  wide = t .through .wide
+  traced-rule = t .through .wide
 
-  pub separated : separatorLines (o .separators) ≡ gridOf (linesFrom lengths columns text) .separators
-  separated = t .through .separated (t .complete)
+  pub traced-separators : separatorLines (o .separators) ≡ gridOf (linesIn a) .separators
+  traced-separators = t .through .separated (t .complete)
 
-  pub short-lines : (y : ℕ) → y < length (linesFrom lengths columns text) → length (getD (linesFrom lengths columns text) y noLine .text) ≤ 512
-  short-lines y h =
-      rw (line-at lengths columns text y noLine (rw count at h)) (omega (arith, length-take (getD lengths y 0) (drop (sum (take y lengths)) text), t .sheet .shortLines y))
+  pub traced-short : (y : ℕ) → y < length (linesIn a) → length (getD (linesIn a) y noLine .text) ≤ 512
+  traced-short y h =
+      rw (line-at (a .lengths) (a .columns) (a .text) y noLine (rw traced-lines at h))
+      (omega (arith, length-take (getD (a .lengths) y 0) (drop (sum (take y (a .lengths))) (a .text)), t .sheet .shortLines y))
 
-  pub all-inside : (r : Rect) → List·Memᴰ r (rectsOf (o .cells) rects) → Inside 128 128 r
-  all-inside r m =
-      let i = inside (linesFrom lengths columns text) (rectsOf (o .cells) rects) glyphs offsets accepted held r m in
-      record { down = i .down; across = i .across; tall = omega (arith, tall, i .tall, t .roomy .heightFits); wide = omega (arith, across, i .wide, t .roomy .widthFits) }
+  pub traced-inside : (r : Rect) → List·Memᴰ r (rectsIn a (o .cells)) → Inside 128 128 r
+  traced-inside r m =
+      let i = inside (linesIn a) (rectsIn a (o .cells)) (a .glyphs) (a .offsets) traced-accepted traced-holds r m in
+      record { down = i .down; across = i .across; tall = omega (arith, traced-height, i .tall, t .roomy .heightFits); wide = omega (arith, traced-width, i .wide, t .roomy .widthFits) }
 
-  pub entries-small : (i : ℕ) → i < 4 * o .cells → getD rects i 0 < 128
-  entries-small = rects-small (o .cells) rects all-inside
+  pub traced-edges : (i : ℕ) → i < 4 * o .cells → getD (a .rects) i 0 < 128
+  traced-edges = rects-small (o .cells) (a .rects) traced-inside
 
-  pub cells-room : 4 * o .cells ≤ length rects
-  cells-room = omega (arith, t .through .few, t .rectRoom)
+  pub traced-room : 4 * o .cells ≤ length (a .rects)
+  traced-room = omega (arith, t .through .few, t .rectRoom)
 
-  pub all-laid : Laid (gridOf (linesFrom lengths columns text)) (rectsOf (o .cells) rects) glyphs offsets
-  all-laid = laid (linesFrom lengths columns text) (rectsOf (o .cells) rects) glyphs offsets accepted held
+  pub traced-laid : Laid (gridOf (linesIn a)) (rectsIn a (o .cells)) (a .glyphs) (a .offsets)
+  traced-laid = laid (linesIn a) (rectsIn a (o .cells)) (a .glyphs) (a .offsets) traced-accepted traced-holds
 
-  pub all-covered : Cover (gridOf (linesFrom lengths columns text)) (rectsOf (o .cells) rects)
-  all-covered = cover (linesFrom lengths columns text) (rectsOf (o .cells) rects) glyphs offsets accepted held
+  pub traced-cover : Cover (gridOf (linesIn a)) (rectsIn a (o .cells))
+  traced-cover = cover (linesIn a) (rectsIn a (o .cells)) (a .glyphs) (a .offsets) traced-accepted traced-holds
 
-  pub some-line : 0 < length lengths
-  some-line = omega (arith, tall, cover (linesFrom lengths columns text) (rectsOf (o .cells) rects) glyphs offsets accepted held .tall)
+  pub traced-some : 0 < length (a .lengths)
+  traced-some = omega (arith, traced-height, traced-cover .tall)

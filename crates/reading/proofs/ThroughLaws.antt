@@ -7,6 +7,7 @@ use mathlib.Core.Logic.{⊎-elim}
 use native.Mathlib.Omega.{arith}
 use lib.ListN.{length}
 use borrow.Author.Tests.{not-true, not-false}
+use Rattle.text.specs.declared.Column.{Column}
 use Rattle.grid.specs.Slots.{gridOf, trimmedAt}
 use Rattle.grid.specs.Trace.{covered, stopped, trace}
 use Rattle.grid.specs.Flat.{linesFrom}
@@ -27,8 +28,8 @@ use Rattle.reading.specs.Call.{Through}
 
 module _ (lengths columns text rects : List ℕ) {glyphs₀ offsets₀ glyphs offsets : List ℕ} {f : Filled}
     (all : AllFilled (gridOf (linesFrom lengths columns text)) glyphs₀ offsets₀ glyphs offsets f)
-    {width : ℕ} (is : width ≡ length (trimmedAt (linesFrom lengths columns text) 0)) where
-  told : width ≡ gridOf (linesFrom lengths columns text) .width
+    {width : Column} (is : width .0 ≡ length (trimmedAt (linesFrom lengths columns text) 0)) where
+  told : width .0 ≡ gridOf (linesFrom lengths columns text) .width
   unfolding gridOf
   told = is
 
@@ -51,12 +52,12 @@ module _ (lengths columns text rects : List ℕ) {glyphs₀ offsets₀ glyphs of
     full : f .full ≡ true
     full = not-false (f .full) passes
 
-    traced-arrays : trace (arrayGrid (length lengths) width glyphs) ≡ trace (gridOf (linesFrom lengths columns text))
+    traced-arrays : trace (arrayGrid (length lengths) (width .0) glyphs) ≡ trace (gridOf (linesFrom lengths columns text))
     traced-arrays =
         rw (told, ← lines-length lengths columns text)
         (sym (trace-same (gridOf (linesFrom lengths columns text)) _ (array-same (linesFrom lengths columns text) glyphs offsets (all .right full) (all .holds full))))
 
-    through : {t : tracing.Traced} (n : ℕ) → t ≡ Covered n → tracedOf t rects ≡ trace (arrayGrid (length lengths) width glyphs) → countOf t ≤ 1024
+    through : {t : tracing.Traced} (n : ℕ) → t ≡ Covered n → tracedOf t rects ≡ trace (arrayGrid (length lengths) (width .0) glyphs) → countOf t ≤ 1024
         → Through (gridOf (linesFrom lengths columns text)) glyphs offsets rects (record { number = 0; place = 0; width = width; cells = n; separators = f .separators })
     unfolding gridAnswer
     through {t = t} n is-covered traced few =
@@ -73,7 +74,7 @@ module _ (lengths columns text rects : List ℕ) {glyphs₀ offsets₀ glyphs of
           separated = λ z. all .separated full;
         }
 
-    not-through : {t : tracing.Traced} (number : ℕ) → t ≡ Stopped number → tracedOf t rects ≡ trace (arrayGrid (length lengths) width glyphs)
+    not-through : {t : tracing.Traced} (number : ℕ) → t ≡ Stopped number → tracedOf t rects ≡ trace (arrayGrid (length lengths) (width .0) glyphs)
         → Through (gridOf (linesFrom lengths columns text)) glyphs offsets rects (record { number = number; place = 0; width = width; cells = 0; separators = f .separators })
     unfolding gridAnswer
     not-through {t = t} number is-stopped traced =
@@ -92,7 +93,7 @@ module _ (lengths columns text rects : List ℕ) {glyphs₀ offsets₀ glyphs of
         }
 
     pub traced-through : (t : tracing.Traced) (k : Counted) → (k .number ≡ numberOf t) × (k .cells ≡ countOf t)
-        → tracedOf t rects ≡ trace (arrayGrid (length lengths) width glyphs) → countOf t ≤ 1024
+        → tracedOf t rects ≡ trace (arrayGrid (length lengths) (width .0) glyphs) → countOf t ≤ 1024
         → Through (gridOf (linesFrom lengths columns text)) glyphs offsets rects (record { number = k .number; place = 0; width = width; cells = k .cells; separators = f .separators })
     traced-through (Covered n) k (number, cells) traced few = rw (number, cells) (through n refl traced few)
     traced-through (Stopped m) k (number, cells) traced few = rw (number, cells) (not-through m refl traced)

@@ -5,7 +5,7 @@ use mathlib.Core.List.{List}
 use lib.ListN.{length}
 use Rattle.grid.specs.Answer.{Answer, accept, refuse}
 use Rattle.grid.specs.Limits.{maxBytes}
-use Rattle.grid.specs.Values.{Rect}
+use Rattle.grid.specs.Values.{Line, Rect}
 use Rattle.grid.specs.Slots.{Grid, gridOf}
 use Rattle.grid.specs.Flat.{linesFrom}
 use Rattle.grid.specs.LayoutCall.{rectSpace}
@@ -19,31 +19,52 @@ use Rattle.reading.specs.declared.Outcome.{Outcome}
 
 -- what the checks up to the width answer
 abbrev pub checkedOf : Measured → Answer ℕ
-checkedOf (Width n) = accept n
+checkedOf (Width w) = accept (w .0)
 checkedOf (Refused number place) = refuse number place
 
 -- what filling and tracing leave; number 0 is acceptance
 pub record Through (g : Grid) (glyphs offsets rects : List ℕ) (s : Outcome) : Type 0 where
   pub refused : (s .number ≡ 0 → ⊥) → gridAnswer g ≡ refuse (s .number) (s .place)
   pub accepted : s .number ≡ 0 → gridAnswer g ≡ accept (rectsOf (s .cells) rects)
-  pub wide : s .width ≡ g .width
+  pub wide : s .width .0 ≡ g .width
   pub few : s .cells ≤ 1024
   pub held : s .number ≡ 0 → Holds (g .rows) (g .width) glyphs offsets
   pub separatorsRoom : length (s .separators .lines) ≡ 128
   pub fewSeparators : s .separators .count ≤ 128
   pub separated : s .number ≡ 0 → separatorLines (s .separators) ≡ g .separators
 
+-- the arrays of a drawing, with the glyphs, offsets and rectangles that reading leaves in its working space
+pub record SheetArrays : Type 0 where
+  pub lengths : List ℕ
+  pub columns : List ℕ
+  pub text : List ℕ
+  pub glyphs : List ℕ
+  pub offsets : List ℕ
+  pub rects : List ℕ
+
+abbrev pub sheetOf : (lengths columns text glyphs offsets rects : List ℕ) → SheetArrays
+sheetOf lengths columns text glyphs offsets rects =
+    record { lengths = lengths; columns = columns; text = text; glyphs = glyphs; offsets = offsets; rects = rects }
+
+-- its lines
+abbrev pub linesIn : SheetArrays → List Line
+linesIn a = linesFrom (a .lengths) (a .columns) (a .text)
+
+-- its rectangles, so many
+abbrev pub rectsIn : SheetArrays → ℕ → List Rect
+rectsIn a n = rectsOf n (a .rects)
+
 -- a drawing that was traced: what its arrays have room for and hold
-pub record TracedSheet (lengths columns text glyphs offsets rects : List ℕ) (s : Outcome) : Type 0 where
-  pub sheet : Sheet lengths columns text
-  pub fewBytes : length text ≤ maxBytes
-  pub roomy : Roomy (length lengths) (s .width) glyphs offsets
-  pub rectRoom : rectSpace ≤ length rects
-  pub through : Through (gridOf (linesFrom lengths columns text)) glyphs offsets rects s
+pub record TracedSheet (a : SheetArrays) (s : Outcome) : Type 0 where
+  pub sheet : Sheet (a .lengths) (a .columns) (a .text)
+  pub fewBytes : length (a .text) ≤ maxBytes
+  pub roomy : Roomy (length (a .lengths)) (s .width .0) (a .glyphs) (a .offsets)
+  pub rectRoom : rectSpace ≤ length (a .rects)
+  pub through : Through (gridOf (linesIn a)) (a .glyphs) (a .offsets) (a .rects) s
   pub complete : s .number ≡ 0
 
--- what reading leaves where the definition answers `a`
-pub record Reading (a : Answer (List Rect)) (lengths columns text glyphs offsets rects : List ℕ) (s : Outcome) : Type 0 where
-  pub refused : (s .number ≡ 0 → ⊥) → a ≡ refuse (s .number) (s .place)
-  pub accepted : s .number ≡ 0 → a ≡ accept (rectsOf (s .cells) rects)
-  pub traced : s .number ≡ 0 → TracedSheet lengths columns text glyphs offsets rects s
+-- what reading leaves where the definition answers `answer`
+pub record Reading (answer : Answer (List Rect)) (a : SheetArrays) (s : Outcome) : Type 0 where
+  pub refused : (s .number ≡ 0 → ⊥) → answer ≡ refuse (s .number) (s .place)
+  pub accepted : s .number ≡ 0 → answer ≡ accept (rectsIn a (s .cells))
+  pub traced : s .number ≡ 0 → TracedSheet a s

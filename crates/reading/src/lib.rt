@@ -14,6 +14,7 @@ use slots::Separators;
 use slots::fill::fill;
 use slots::reach::reach_down;
 use slots::reach::reach_right;
+use text::Column;
 use trace::count::count;
 use trace::trace;
 ghost use Prim.Native.Nat.{_≤_, _<_};
@@ -28,11 +29,11 @@ ghost use Rattle.grid.specs.LayoutCall.{slotSpace, rectSpace, spaces, drawing};
 ghost use Rattle.representation.specs.LayoutParts.{rectsAnswer, widthAnswer};
 ghost use Rattle.representation.specs.Arrays.{Roomy};
 ghost use Rattle.representation.specs.Sheet.{Sheet};
-ghost use Rattle.reading.specs.Call.{checkedOf, Through, Reading};
+ghost use Rattle.reading.specs.Call.{checkedOf, Through, sheetOf, Reading};
 
 // What the checks up to the width give.
 pub enum Measured {
-    Width(usize),
+    Width(Column),
     Refused { number: usize, place: usize },
 }
 
@@ -41,7 +42,7 @@ pub enum Measured {
 pub struct Outcome {
     pub number: usize,
     pub place: usize,
-    pub width: usize,
+    pub width: Column,
     pub cells: usize,
     pub separators: Separators,
 }
@@ -96,7 +97,7 @@ fn checked(lines: usize, bytes: usize, lengths: &[u16], columns: &[u16], text: &
             place: 0,
         };
     }
-    let width = top.len();
+    let width = Column(top.len());
     if too_wide(width) {
         return Measured::Refused {
             number: 2,
@@ -111,7 +112,7 @@ fn trace_lines(
     lengths: &[u16],
     columns: &[u16],
     text: &[u8],
-    width: usize,
+    width: Column,
     glyphs: &mut [u8],
     offsets: &mut [u16],
     down: &mut [u8],
@@ -119,9 +120,9 @@ fn trace_lines(
     rects: &mut [u8],
 ) -> Outcome
     requires { ⌜ Sheet (now lengths) (now columns) (now text) ⌝ }
-    requires { ⌜ Roomy (length (now lengths)) width (now glyphs) (now offsets) ⌝ }
+    requires { ⌜ Roomy (length (now lengths)) (width .0) (now glyphs) (now offsets) ⌝ }
     requires { ⌜ (slotSpace ≤ length (now down)) × (slotSpace ≤ length (now right)) × (rectSpace ≤ length (now rects)) ⌝ }
-    requires { ⌜ width ≡ length (trimmedAt (linesFrom (now lengths) (now columns) (now text)) 0) ⌝ }
+    requires { ⌜ width .0 ≡ length (trimmedAt (linesFrom (now lengths) (now columns) (now text)) 0) ⌝ }
     ensures { λ r.
         let drawn = linesFrom (now (lengths .entry)) (now (columns .entry)) (now (text .entry)) in
         let g = gridOf drawn in
@@ -129,7 +130,7 @@ fn trace_lines(
         × (length (now (rects .exit)) ≡ length (now (rects .entry))))
         × Through g (now (glyphs .exit)) (now (offsets .exit)) (now (rects .exit)) r ⌝ }
 {
-    let filled = fill(lengths, columns, text, width, glyphs, offsets);
+    let filled = fill(lengths, columns, text, width.0, glyphs, offsets);
     let separators = filled.separators;
     if !filled.full {
         return Outcome {
@@ -141,9 +142,9 @@ fn trace_lines(
         };
     }
     let height = lengths.len();
-    reach_right(glyphs, height, width, right);
-    reach_down(glyphs, height, width, down);
-    let counted = count(trace(glyphs, down, right, height, width, rects));
+    reach_right(glyphs, height, width.0, right);
+    reach_down(glyphs, height, width.0, down);
+    let counted = count(trace(glyphs, down, right, height, width.0, rects));
     Outcome {
         number: counted.number,
         place: 0,
@@ -160,7 +161,7 @@ pub fn refusal(number: usize, place: usize) -> Outcome
     Outcome {
         number,
         place,
-        width: 0,
+        width: Column(0),
         cells: 0,
         separators: Separators {
             lines: [0; 128],
@@ -186,8 +187,9 @@ pub fn read(
     ensures { λ r.
         let space = spaces (now (glyphs .entry)) (now (offsets .entry)) (now (down .entry)) (now (right .entry)) (now (rects .entry)) in
         let given = drawing lines bytes (now (lengths .entry)) (now (columns .entry)) (now (text .entry)) in
-        ⌜ Reading (rectsAnswer space given) (now (lengths .entry)) (now (columns .entry)) (now (text .entry))
-        (now (glyphs .exit)) (now (offsets .exit)) (now (rects .exit)) r ⌝ }
+        let left =
+        sheetOf (now (lengths .entry)) (now (columns .entry)) (now (text .entry)) (now (glyphs .exit)) (now (offsets .exit)) (now (rects .exit)) in
+        ⌜ Reading (rectsAnswer space given) left r ⌝ }
 {
     if space_short(
         glyphs.len(),

@@ -1,4 +1,5 @@
 // The limits of a drawing and of the working space.
+use text::Column;
 ghost use mathlib.Core.Path.{_≡_};
 ghost use Rattle.grid.specs.Read.{drawingTooLarge};
 ghost use Rattle.grid.specs.Flat.{linesFrom};
@@ -47,10 +48,10 @@ pub fn too_large(lengths: &[u16], columns: &[u16], text: &[u8]) -> bool
 }
 
 // 2, of a drawing's width.
-pub fn too_wide(width: usize) -> bool
-    ensures { λ r. ⌜ r ≡ ltb maxWidth width ⌝ }
+pub fn too_wide(width: Column) -> bool
+    ensures { λ r. ⌜ r ≡ ltb maxWidth (width .0) ⌝ }
 {
-    MAX_WIDTH < width
+    MAX_WIDTH < width.0
 }
 
 // 13, of the working space.

@@ -12,5 +12,7 @@ pub mod PartLaws
 -- Lines put together: the columns that bytes take one after another, a rule byte by byte.
 pub mod SpanLaws
 pub mod RuleBytes
+-- A line and the same line trimmed; a rule is plain.
+pub mod TrimmedLaws
 -- Columns added up over the bytes.
 pub mod ByteColumnsLaws

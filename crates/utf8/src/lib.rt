@@ -2,6 +2,7 @@
 pub mod columns;
 pub mod known;
 pub mod line_text;
+pub mod several;
 
 use characters::in_set;
 use characters::known::in_set_of_three;

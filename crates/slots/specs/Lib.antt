@@ -1,4 +1,5 @@
 pub mod Filling
 pub mod Replaced
 pub mod Line
+pub mod Scan
 pub mod Reaching

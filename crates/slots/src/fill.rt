@@ -6,18 +6,14 @@ use representation::STRIDE;
 use rule_lines::rule::is_rule;
 use rule_lines::trim::trim_end;
 use text::Column;
-ghost use Prim.Native.Nat.{_+_, _≤_, _<_};
+ghost use Prim.Native.Nat.{ℕ, _+_, _≤_, _<_};
 ghost use mathlib.Core.Path.{_≡_};
 ghost use mathlib.Core.Bool.{cond, _&&_};
 ghost use lib.Dec.{ltb};
-ghost use mathlib.Core.List.{_∷_, [], _++_};
+ghost use mathlib.Core.List.{List, _∷_, [], _++_};
 ghost use lib.ListN.{length};
 ghost use Rattle.text.specs.Rule.{isRule};
-ghost use Rattle.grid.specs.Flat.{linesFrom};
-ghost use Rattle.grid.specs.Slots.{gridOf, trimmedAt};
-ghost use Rattle.representation.specs.Arrays.{Roomy};
-ghost use Rattle.slots.specs.Filling.{NextRoom, NextFilled, separatorLines, AllFilled};
-ghost use Rattle.representation.specs.Sheet.{Sheet};
+ghost use Rattle.slots.specs.Filling.{NextRoom, FilledNext, separatorLines, Fillable, FilledAll};
 
 fn is_separator(line: &[u8], y: usize) -> bool
     ensures { λ r. ⌜ r ≡ (ltb 0 y && isRule 0x3d (now (line .entry))) ⌝ }
@@ -43,19 +39,19 @@ fn noted(separators: Separators, separator: bool, y: usize) -> Separators
     }
 }
 
-// Writes the slots of line y, and notes it where it is a separator.
+// Do the slots of line y fill the width? It is noted where it is a separator.
 fn fill_next(
     text: &[u8],
-    column: Column,
     y: usize,
-    width: usize,
+    width: Column,
+    count: u8,
     separators: Separators,
     glyphs: &mut [u8],
     offsets: &mut [u16],
 ) -> Filled
-    requires { ⌜ NextRoom (now text) (column .0) y width separators (now glyphs) (now offsets) ⌝ }
+    requires { ⌜ NextRoom (now text) y (width .0) count separators (now glyphs) (now offsets) ⌝ }
     ensures { λ r.
-        ⌜ NextFilled (now (text .entry)) (column .0) y width separators
+        ⌜ FilledNext (now (text .entry)) y (width .0) count separators
         (now (glyphs .entry)) (now (offsets .entry)) (now (glyphs .exit)) (now (offsets .exit)) r ⌝ }
 {
     let line = trim_end(text);
@@ -63,7 +59,7 @@ fn fill_next(
     let full = fill_line(
         line,
         (y == 0) | separator,
-        column,
+        count,
         y * STRIDE,
         width,
         glyphs,
@@ -76,22 +72,19 @@ fn fill_next(
     }
 }
 
-// Writes the slots of all lines.
+// The slots of all lines, of which `counts` says what scanning left. The lines' columns were used there.
 pub fn fill(
     lengths: &[u16],
-    columns: &[u16],
     text: &[u8],
-    width: usize,
+    width: Column,
+    counts: &[u8],
     glyphs: &mut [u8],
     offsets: &mut [u16],
 ) -> Filled
-    requires { ⌜ Sheet (now lengths) (now columns) (now text) ⌝ }
-    requires { ⌜ Roomy (length (now lengths)) width (now glyphs) (now offsets) ⌝ }
-    requires { ⌜ width ≡ length (trimmedAt (linesFrom (now lengths) (now columns) (now text)) 0) ⌝ }
+    requires { ⌜ ((columns : List ℕ) × Fillable (now lengths) columns (now text) (width .0) (now counts) (now glyphs) (now offsets)) ⌝ }
     ensures { λ r.
-        let drawn = linesFrom (now (lengths .entry)) (now (columns .entry)) (now (text .entry)) in
-        let g = gridOf drawn in
-        ⌜ AllFilled g (now (glyphs .entry)) (now (offsets .entry)) (now (glyphs .exit)) (now (offsets .exit)) r ⌝ }
+        ⌜ FilledAll (now (lengths .entry)) (now (text .entry)) (width .0) (now (counts .entry))
+        (now (glyphs .entry)) (now (offsets .entry)) (now (glyphs .exit)) (now (offsets .exit)) r ⌝ }
 {
     let mut separators = Separators {
         lines: [0; 128],
@@ -101,12 +94,11 @@ pub fn fill(
     let mut y = 0;
     while y < lengths.len() {
         let end = at + lengths[y] as usize;
-        let column = Column(columns[y] as usize);
         let filled = fill_next(
             &text[at..end],
-            column,
             y,
             width,
+            counts[y],
             separators,
             glyphs,
             offsets,

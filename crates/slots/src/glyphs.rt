@@ -62,10 +62,12 @@ pub fn fill_plain(line: &[u8], rule: bool, at: usize, glyphs: &mut [u8], offsets
     ensures { λ _. ⌜ now (glyphs .exit) ≡ replaced (now (glyphs .entry)) at (byteCodes rule (now (line .entry))) ⌝ }
     ensures { λ _. ⌜ now (offsets .exit) ≡ replaced (now (offsets .entry)) at (upTo (length (now (line .entry)))) ⌝ }
 {
-    let mut i = 0;
-    while i < line.len() {
-        glyphs[at + i] = glyph(rule, widened(line[i]));
-        offsets[at + i] = i as u16;
-        i += 1;
+    let mut byte = 0;
+    let mut n = 0;
+    while byte < line.len() {
+        glyphs[at + n] = glyph(rule, widened(line[byte]));
+        offsets[at + n] = byte as u16;
+        byte += 1;
+        n += 1;
     }
 }

@@ -4,6 +4,7 @@ pub mod glyphs;
 pub mod line;
 pub mod map;
 pub mod reach;
+pub mod scan;
 
 // The part separators: the first count entries are their lines.
 pub struct Separators {

@@ -1,6 +1,6 @@
 -- Laws of an array with entries replaced.
-use Prim.Native.Nat.{ℕ, _+_, _≤_, _<_}
-use mathlib.Core.Path.{_≡_, refl, sym, ap, _∙_}
+use Prim.Native.Nat.{ℕ, _+_, _-_, _≤_, _<_}
+use mathlib.Core.Path.{_≡_, refl, sym, ap, ap₂, _∙_}
 use mathlib.Core.List.{List, [], _∷_, _++_, append-nil, append-assoc}
 use native.Mathlib.Omega.{arith}
 use native.Mathlib.Nat.{add-zero, add-assoc}
@@ -92,3 +92,18 @@ module _ (array : List ℕ) (at : ℕ) (entries : List ℕ) (room : at + length 
       rw (← e)
       (part-taken (replaced array at entries) at (length entries) (omega (arith, length-replaced array at entries room))
       ∙ ap (drop at) (take-replaced array at entries room) ∙ drop-at (take at array) entries at (length-take-le at array (omega arith)))
+
+  pub part-after : (a n : ℕ) → at + length entries ≤ a → take n (drop a (replaced array at entries)) ≡ take n (drop a array)
+  part-after a n h =
+      let past : at + length entries + (a - (at + length entries)) ≡ a = omega arith in
+      ap (take n)
+      (ap (λ (k : ℕ). drop k (replaced array at entries)) (sym past) ∙ sym (drop-drop (a - (at + length entries)) (at + length entries) (replaced array at entries))
+      ∙ ap (drop (a - (at + length entries))) (drop-replaced array at entries room) ∙ drop-drop (a - (at + length entries)) (at + length entries) array
+      ∙ ap (λ (k : ℕ). drop k array) past)
+
+-- entries that stand there already
+pub replaced-same : (array : List ℕ) (at : ℕ) (entries : List ℕ) → at + length entries ≤ length array → take (length entries) (drop at array) ≡ entries → array ≡ replaced array at entries
+replaced-same array at entries room there =
+    sym (take-append-drop at array)
+    ∙ ap (λ (l : List ℕ). take at array ++ l) (sym (take-append-drop (length entries) (drop at array)) ∙ ap₂ (λ (l m : List ℕ). l ++ m) there (drop-drop (length entries) at array))
+    ∙ sym (append-assoc (take at array) entries (drop (at + length entries) array))

@@ -1,21 +1,22 @@
--- `slots::fill::fill` meets its contract: the invariant: the lines before y are written, each of the width.
-use Prim.Native.Nat.{_-_}
+use Prim.Native.Nat.{_-_, _≤_}
+use mathlib.Core.Path.{_≡_}
 use borrow.Author.Needs.{needs}
 use lib.ListN.{length}
-use Rattle.slots.proofs.fill.SheetLaws.{SheetSoFar, sheet-starts, short-fits, near-fits, line-inside, line-fits, next-room, sheet-next, sheet-wrong, sheet-done}
+use Rattle.slots.proofs.fill.SheetLaws.{EachSoFar, sheet-starts, each-short, each-fits, each-inside, each-counted, each-room, sheet-next, sheet-wrong, sheet-done}
 use Rattle.slots.proofs.fill.fill.Statement.{statement}
 use Rattle.slots.proofs.fill.fill.Tie as tie
 
 abbrev Inv-loop : tie.InvT-loop
-Inv-loop lengths columns text width glyphs₀ offsets₀ separators₀ at₀ y₀ glyphs offsets separators at y =
-    SheetSoFar lengths columns text width glyphs₀ offsets₀ glyphs offsets separators at y
+Inv-loop lengths text width counts glyphs₀ offsets₀ separators₀ at₀ y₀ glyphs offsets separators at y =
+    (y ≤ length lengths) × (length glyphs ≡ length glyphs₀) × (length offsets ≡ length offsets₀)
+    × EachSoFar lengths text (width .0) counts glyphs₀ offsets₀ glyphs offsets separators at y
 
 abbrev μ-loop : tie.MeasureT-loop
-μ-loop lengths columns text width glyphs₀ offsets₀ separators₀ at₀ y₀ glyphs offsets separators at y =
+μ-loop lengths text width counts glyphs₀ offsets₀ separators₀ at₀ y₀ glyphs offsets separators at y =
     length lengths - y
 
 loop-holds : tie.Need-loop-holds Inv-loop μ-loop
-loop-holds c = search sheet-starts
+loop-holds c = search (needs, sheet-starts)
 
 mul-end : tie.Need-mul-end Inv-loop μ-loop
 mul-end c = search needs
@@ -24,19 +25,10 @@ shared-slice-read-end : tie.Need-shared-slice-read-end Inv-loop μ-loop
 shared-slice-read-end c = search needs
 
 cast-end : tie.Need-cast-end Inv-loop μ-loop
-cast-end c = search short-fits
+cast-end c = search each-short
 
 add-end : tie.Need-add-end Inv-loop μ-loop
-add-end c = search line-fits
-
-mul-t14 : tie.Need-mul-t14 Inv-loop μ-loop
-mul-t14 c = search needs
-
-shared-slice-read-t17 : tie.Need-shared-slice-read-t17 Inv-loop μ-loop
-shared-slice-read-t17 c = search needs
-
-cast-t18 : tie.Need-cast-t18 Inv-loop μ-loop
-cast-t18 c = search near-fits
+add-end c = search each-fits
 
 sub-fill-next : tie.Need-sub-fill-next Inv-loop μ-loop
 sub-fill-next c = search needs
@@ -45,10 +37,13 @@ part-fill-next-start : tie.Need-part-fill-next-start Inv-loop μ-loop
 part-fill-next-start c = search needs
 
 part-fill-next-end : tie.Need-part-fill-next-end Inv-loop μ-loop
-part-fill-next-end c = search line-inside
+part-fill-next-end c = search each-inside
+
+shared-slice-read-fill-next : tie.Need-shared-slice-read-fill-next Inv-loop μ-loop
+shared-slice-read-fill-next c = search each-counted
 
 fill-next-requires : tie.Need-fill-next-requires Inv-loop μ-loop
-fill-next-requires c κs = search next-room
+fill-next-requires c κs = search each-room
 
 same-length : tie.Need-same-length Inv-loop μ-loop
 same-length c = search needs
@@ -66,7 +61,7 @@ loop-less : tie.Need-loop-less Inv-loop μ-loop
 loop-less c = search needs
 
 loop-again : tie.Need-loop-again Inv-loop μ-loop
-loop-again c = search sheet-next
+loop-again c = (search needs, search needs, search needs, search sheet-next)
 
 same-length-3 : tie.Need-same-length-3 Inv-loop μ-loop
 same-length-3 c = search needs
@@ -88,12 +83,10 @@ fill-spec =
     shared-slice-read-end
     cast-end
     add-end
-    mul-t14
-    shared-slice-read-t17
-    cast-t18
     sub-fill-next
     part-fill-next-start
     part-fill-next-end
+    shared-slice-read-fill-next
     fill-next-requires
     same-length
     same-length-2

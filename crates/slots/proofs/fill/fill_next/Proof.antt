@@ -1,6 +1,5 @@
--- `slots::fill::fill_next` meets its contract: from its four calls.
+use Rattle.slots.proofs.fill.NextLaws.{trimmed-short, trimmed-plain, next-filled}
 use borrow.Author.Needs.{needs}
-use Rattle.slots.proofs.fill.NextLaws.{trimmed-short, trimmed-well, next-filled}
 use Rattle.slots.proofs.fill.fill_next.Statement.{statement}
 use Rattle.slots.proofs.fill.fill_next.Tie as tie
 
@@ -14,7 +13,7 @@ mul-fill-line : tie.Need-mul-fill-line
 mul-fill-line c = search needs
 
 fill-line-requires : tie.Need-fill-line-requires
-fill-line-requires c κs = search (trimmed-short, trimmed-well)
+fill-line-requires c κs = search (needs, trimmed-short, trimmed-plain)
 
 noted-requires : tie.Need-noted-requires
 noted-requires c κs = search needs

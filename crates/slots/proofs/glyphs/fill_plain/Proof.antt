@@ -1,4 +1,4 @@
--- `slots::glyphs::fill_plain` meets its contract: the invariant: the bytes before i are written.
+-- `slots::glyphs::fill_plain` meets its contract: the invariant: the bytes before `byte` are written, a slot each.
 use Prim.Native.Nat.{_-_}
 use borrow.Author.Needs.{needs}
 use lib.ListN.{length}
@@ -7,10 +7,10 @@ use Rattle.slots.proofs.glyphs.fill_plain.Statement.{statement}
 use Rattle.slots.proofs.glyphs.fill_plain.Tie as tie
 
 abbrev Inv-loop : tie.InvT-loop
-Inv-loop line rule at glyphs₀ offsets₀ i₀ glyphs offsets i = PlainSoFar line rule at glyphs₀ offsets₀ glyphs offsets i
+Inv-loop line rule at glyphs₀ offsets₀ byte₀ n₀ glyphs offsets byte n = PlainSoFar line rule at glyphs₀ offsets₀ glyphs offsets byte n
 
 abbrev μ-loop : tie.MeasureT-loop
-μ-loop line rule at glyphs₀ offsets₀ i₀ glyphs offsets i = length line - i
+μ-loop line rule at glyphs₀ offsets₀ byte₀ n₀ glyphs offsets byte n = length line - byte
 
 loop-holds : tie.Need-loop-holds Inv-loop μ-loop
 loop-holds c = search bytes-start
@@ -42,8 +42,11 @@ mul-offsets c = search needs
 slice-write-offsets : tie.Need-slice-write-offsets Inv-loop μ-loop
 slice-write-offsets c = search needs
 
-add-i : tie.Need-add-i Inv-loop μ-loop
-add-i c = search needs
+add-byte : tie.Need-add-byte Inv-loop μ-loop
+add-byte c = search needs
+
+add-n : tie.Need-add-n Inv-loop μ-loop
+add-n c = search needs
 
 loop-less : tie.Need-loop-less Inv-loop μ-loop
 loop-less c = search needs
@@ -76,7 +79,8 @@ fill-plain-spec =
     add-offsets
     mul-offsets
     slice-write-offsets
-    add-i
+    add-byte
+    add-n
     loop-less
     loop-again
     same-length

@@ -1,0 +1,136 @@
+// The slots of lines that are not plain, written down while their characters are checked for refusal 3.
+use crate::glyphs::put_slots;
+use crate::glyphs::widened;
+use characters::in_set;
+use characters::known::span_in_set;
+use characters::within;
+use representation::STRIDE;
+use rule_lines::trim::trim_end;
+use text::ByteAt;
+use text::Column;
+use utf8::line_text::is_plain;
+use utf8::several::is_three;
+use utf8::several::is_two;
+ghost use Prim.Native.Nat.{_+_, _≤_, _<_};
+ghost use mathlib.Core.Path.{_≡_};
+ghost use lib.ListN.{length};
+ghost use Rattle.grid.specs.LayoutCall.{slotSpace};
+ghost use Rattle.slots.specs.Scan.{PutWithin, LineScanned, clipped as clippedOf, NextScanned};
+
+// Stands for the number of columns of a plain line, which has a slot for each byte.
+pub const PLAIN: u8 = 255;
+
+// The columns that a line takes, or that it is not UTF-8 of the set.
+pub enum Scanned {
+    Columns(Column),
+    Outside,
+}
+
+// Writes count slots of one character from column n of the line at `at` on, where they fit.
+fn put_within(
+    glyphs: &mut [u8],
+    offsets: &mut [u16],
+    at: usize,
+    n: usize,
+    count: usize,
+    value: u32,
+    byte: u16,
+)
+    requires { ⌜ (n ≤ 2048) × (count ≤ 4) × (at + 128 ≤ length (now glyphs)) × (at + 128 ≤ length (now offsets)) ⌝ }
+    ensures { λ _.
+        ⌜ PutWithin at n count value byte (now (glyphs .entry)) (now (offsets .entry)) (now (glyphs .exit)) (now (offsets .exit)) ⌝ }
+{
+    if n + count <= STRIDE {
+        put_slots(glyphs, offsets, at + n, count, false, value, byte);
+    }
+}
+
+// The columns of a trimmed line, whose slots go to the arrays from index `at` on as far as there are 128. Past
+// ASCII a character's first byte says its bytes, its columns and its glyph.
+fn scan_line(
+    line: &[u8],
+    column: Column,
+    at: usize,
+    glyphs: &mut [u8],
+    offsets: &mut [u16],
+) -> Scanned
+    requires { ⌜ (column .0 ≤ 255) × (length (now line) ≤ 512) × (at + 128 ≤ length (now glyphs)) × (at + 128 ≤ length (now offsets)) ⌝ }
+    ensures { λ r.
+        ⌜ LineScanned (now (line .entry)) (column .0) at
+        (now (glyphs .entry)) (now (offsets .entry)) (now (glyphs .exit)) (now (offsets .exit)) r ⌝ }
+{
+    let first = column.0;
+    let mut byte = 0;
+    let mut n = 0;
+    while byte < line.len() {
+        let a = widened(line[byte]);
+        if within(0x20, 0x7e, a) {
+            put_within(glyphs, offsets, at, n, 1, a, byte as u16);
+            byte += 1;
+            n += 1;
+        } else if a < 0x80 {
+            if !in_set(a) {
+                return Scanned::Outside;
+            }
+            let count = span_in_set(a, Column(first + n));
+            put_within(glyphs, offsets, at, n, count, a, byte as u16);
+            byte += 1;
+            n += count;
+        } else if a < 0xcc {
+            if !is_two(line, ByteAt(byte)) {
+                return Scanned::Outside;
+            }
+            put_within(glyphs, offsets, at, n, 1, a, byte as u16);
+            byte += 2;
+            n += 1;
+        } else if a < 0xe0 {
+            if !is_two(line, ByteAt(byte)) {
+                return Scanned::Outside;
+            }
+            byte += 2;
+        } else {
+            if !is_three(line, ByteAt(byte)) {
+                return Scanned::Outside;
+            }
+            put_within(glyphs, offsets, at, n, 2, a, byte as u16);
+            byte += 3;
+            n += 2;
+        }
+    }
+    Scanned::Columns(Column(n))
+}
+
+// More than 128 as 129, which no width is.
+fn clipped(columns: Column) -> u8
+    ensures { λ r. ⌜ r ≡ clippedOf (columns .0) ⌝ }
+{
+    let n = columns.0;
+    if STRIDE < n { 129 } else { n as u8 }
+}
+
+// Is line y UTF-8 of the set? What is known of it afterwards goes to the arrays: its slots unless it is
+// plain, and to `counts` how many there are.
+pub fn scan_next(
+    text: &[u8],
+    column: Column,
+    y: usize,
+    glyphs: &mut [u8],
+    offsets: &mut [u16],
+    counts: &mut [u8],
+) -> bool
+    requires { ⌜ (y < 128) × (column .0 ≤ 255) × (length (now text) ≤ 512) ⌝ }
+    requires { ⌜ (slotSpace ≤ length (now glyphs)) × (slotSpace ≤ length (now offsets)) × (128 ≤ length (now counts)) ⌝ }
+    ensures { λ r.
+        ⌜ NextScanned (now (text .entry)) (column .0) y
+        (now (glyphs .entry)) (now (offsets .entry)) (now (counts .entry)) (now (glyphs .exit)) (now (offsets .exit)) (now (counts .exit)) r ⌝ }
+{
+    if is_plain(text) {
+        counts[y] = PLAIN;
+        return true;
+    }
+    let Scanned::Columns(n) = scan_line(trim_end(text), column, y * STRIDE, glyphs, offsets) else {
+        return false;
+    };
+    counts[y] = clipped(n);
+    true
+}

@@ -74,6 +74,13 @@ module _ (at v : ℕ) (array₀ array : List ℕ) (i count : ℕ) (so-far : PutS
 part-taken : (l : List ℕ) (a n : ℕ) → a + n ≤ length l → take n (drop a l) ≡ drop a (take (a + n) l)
 part-taken l a n h = sym (ap (drop a) (take-add a n l) ∙ drop-at (take a l) (take n (drop a l)) a (length-take-le a l (omega arith)))
 
+pub part-kept : (array array′ : List ℕ) (at a n : ℕ) → take at array′ ≡ take at array → at ≤ length array → length array′ ≡ length array → a + n ≤ at
+    → take n (drop a array′) ≡ take n (drop a array)
+part-kept array array′ at a n same room kept h =
+    part-taken array′ a n (omega arith)
+    ∙ ap (drop a) (sym (take-take (a + n) at array′ h) ∙ ap (take (a + n)) same ∙ take-take (a + n) at array h)
+    ∙ sym (part-taken array a n (omega arith))
+
 module _ (array : List ℕ) (at : ℕ) (entries : List ℕ) (room : at + length entries ≤ length array) where
   pub part-before : (a n : ℕ) → a + n ≤ at → take n (drop a (replaced array at entries)) ≡ take n (drop a array)
   part-before a n h =

@@ -5,7 +5,7 @@ use mathlib.Core.Bool.{Bool, true, false, cond}
 use mathlib.Core.List.{List}
 use native.Mathlib.Omega.{arith}
 use lib.Dec.{ltb}
-use lib.ListN.{length, getD, set, replicate, length-replicate, length-set}
+use lib.ListN.{length, getD, take, set, replicate, length-replicate, length-set}
 use lib.Seq.{getD-set-same, getD-set-other}
 use borrow.Author.Tests.{lt-ltb, le-ltb, ltb-false}
 use Rattle.seq.proofs.Tests.{true-not-false}
@@ -16,12 +16,13 @@ use Rattle.text.proofs.PlainLaws.{plain-well}
 use Rattle.text.proofs.TrimLaws.{trim-shorter}
 use Rattle.text.proofs.TrimmedLaws.{wellFormed-trim}
 use Rattle.grid.specs.Slots.{glyphOf}
+use Rattle.grid.specs.LayoutCall.{slotSpace}
 use Rattle.representation.specs.Arrays.{glyphCode}
 use Rattle.slots.specs.Replaced.{replaced}
-use Rattle.slots.specs.Scan.{PutWithin, LineScanned, clipped, NextScanned}
+use Rattle.slots.specs.Scan.{scannedSlots, PutWithin, LineScanned, clipped, LineKnown, NextScanned}
 use Rattle.slots.specs.declared.scan.Scanned.{Scanned}
 use Rattle.slots.specs.declared.scan.Scanned.the-variants.{Columns, Outside}
-use Rattle.slots.proofs.glyphs.ReplaceLaws.{length-replaced, part-before}
+use Rattle.slots.proofs.glyphs.ReplaceLaws.{length-replaced, part-before, part-kept}
 
 -- ---- slots of one character
 module _ (at n count value byte : ℕ) (glyphs offsets glyphs′ offsets′ : List ℕ) where
@@ -121,3 +122,20 @@ module _ (text : List ℕ) (column y : ℕ) (glyphs offsets counts : List ℕ) (
 
 pub trimmed-room : (text line : List ℕ) → line ≡ trimEnd text → length text ≤ 512 → length line ≤ 512
 trimmed-room text line trimmed short = omega (arith, ap length trimmed, trim-shorter text)
+
+-- ---- a line above stays known
+pub known-kept : (text : List ℕ) (column k y count : ℕ) (glyphs offsets glyphs′ offsets′ : List ℕ) → k < y → y ≤ 128 → slotSpace ≤ length glyphs → slotSpace ≤ length offsets
+    → length glyphs′ ≡ length glyphs → length offsets′ ≡ length offsets → take (y * 128) glyphs′ ≡ take (y * 128) glyphs → take (y * 128) offsets′ ≡ take (y * 128) offsets
+    → LineKnown text column (k * 128) glyphs offsets count → LineKnown text column (k * 128) glyphs′ offsets′ count
+known-kept text column k y count glyphs offsets glyphs′ offsets′ above few room room′ kept kept′ same same′ known =
+    let slots = scannedSlots (trimEnd text) column in
+    record {
+      plainLine = known .plainLine;
+      other = λ n. record {
+        counted = known .other n .counted;
+        left = record {
+          glyphsLeft = λ h. part-kept glyphs glyphs′ (y * 128) (k * 128) (length slots) same (omega arith) kept (omega arith) ∙ known .other n .left .glyphsLeft h;
+          offsetsLeft = λ h. part-kept offsets offsets′ (y * 128) (k * 128) (length slots) same′ (omega arith) kept′ (omega arith) ∙ known .other n .left .offsetsLeft h;
+        };
+      };
+    }

@@ -1,6 +1,6 @@
 -- Laws of the checks up to the width.
 use Prim.Native.Nat.{ℕ, zero, suc, _+_, _-_, _≤_, _<_}
-use mathlib.Core.Path.{_≡_, refl, sym, _∙_}
+use mathlib.Core.Path.{_≡_, refl, sym, ap, _∙_}
 use mathlib.Core.Bool.{Bool, true, false, not, _&&_}
 use mathlib.Core.List.{List, [], _∷_}
 use native.Mathlib.Omega.{arith}
@@ -10,22 +10,27 @@ use borrow.Author.Tests.{eqb-true, not-false}
 use Rattle.seq.specs.Lists.{sum, firstAt, isEmpty}
 use Rattle.seq.proofs.Tests.{and-left, and-right}
 use Rattle.seq.proofs.Gathered.{sum-step, sum-within}
-use Rattle.text.specs.Utf8.{wellFormed}
+use Rattle.text.specs.declared.Column.{Column}
+use Rattle.text.specs.Utf8.{wellFormed, plain}
 use Rattle.text.specs.Trim.{trimEnd}
 use Rattle.text.specs.Rule.{isRule}
 use Rattle.text.specs.Lines.{noText}
+use Rattle.text.proofs.TrimmedLaws.{rule-plain}
 use Rattle.grid.specs.Answer.{accept, refuse, refuseIf}
 use Rattle.grid.specs.Values.{Line}
 use Rattle.grid.specs.Slots.{trimmedAt}
 use Rattle.grid.specs.Read.{drawingTooLarge, outsideSet, noRule}
-use Rattle.grid.specs.Flat.{drawingContradicts, splitText, linesWith, linesFrom, linesOf}
+use Rattle.grid.specs.Flat.{FlatDrawing, drawingContradicts, splitText, linesWith, linesFrom, linesOf}
 use Rattle.representation.specs.LayoutParts.{widthAnswer}
-use Rattle.reading.specs.Agreement.{Agree}
-use Rattle.reading.specs.Checks.{placeOf}
+use Rattle.reading.specs.Agreement.{Agree, Limited}
+use Rattle.reading.specs.Checks.{placeOf, LinesScanned}
+use Rattle.reading.specs.Call.{WidthTold}
+use Rattle.reading.specs.declared.Measured.the-variants.{Width, Refused}
 use Rattle.reading.specs.declared.checks.Place.{Place}
 use Rattle.reading.specs.declared.checks.Place.the-variants.{At, Nowhere}
 use Rattle.grid.specs.LayoutCall.{drawing}
 use Rattle.grid.proofs.FlatLaws.{split-at}
+use Rattle.reading.proofs.limits.LimitLaws.{large-limited}
 
 -- ---- a line of a text back to back
 module _ (lengths text : List ℕ) (at i : ℕ) (passed : at ≡ sum (take i lengths)) where
@@ -74,9 +79,9 @@ all-four s t u v e =
 
 -- ---- the checks in their order
 module _ (lines bytes : ℕ) (lengths columns text : List ℕ) (a : Bool) (told : a ≡ drawingContradicts (drawing lines bytes lengths columns text)) where
-  pub contradicted : a ≡ true → refuse 13 0 ≡ widthAnswer (drawing lines bytes lengths columns text)
+  pub width-contradicted : a ≡ true → refuse 13 0 ≡ widthAnswer (drawing lines bytes lengths columns text)
   unfolding widthAnswer
-  contradicted t = rw (← told, t)
+  width-contradicted t = rw (← told, t)
 
   module _ (sized : a ≡ false) where
     pub sizes : (length lengths ≡ lines) × (length columns ≡ lines) × (length text ≡ bytes) × (sum lengths ≡ bytes)
@@ -91,27 +96,30 @@ module _ (lines bytes : ℕ) (lengths columns text : List ℕ) (a : Bool) (told 
     pub agrees : Agree lengths columns text
     agrees = record { columnsAgree = omega (arith, sizes); bytesAgree = adds-up }
 
-    pub no-lines : lines ≡ 0 → refuse 1 0 ≡ widthAnswer (drawing lines bytes lengths columns text)
+    pub width-no-lines : lines ≡ 0 → refuse 1 0 ≡ widthAnswer (drawing lines bytes lengths columns text)
     unfolding widthAnswer linesOf
-    no-lines z = let e : length lengths ≡ 0 = omega (arith, sizes) in rw (← told, sized, empty-lines lengths columns text e)
+    width-no-lines z = let e : length lengths ≡ 0 = omega (arith, sizes) in rw (← told, sized, empty-lines lengths columns text e)
 
     module _ (some-lines : lines ≡ 0 → ⊥) where
       pub some-length : 0 < length lengths
       some-length = omega (arith, sizes)
 
       module _ (b : Bool) (large-told : b ≡ drawingTooLarge (linesFrom lengths columns text)) where
-        pub large : b ≡ true → refuse 2 0 ≡ widthAnswer (drawing lines bytes lengths columns text)
+        pub width-large : b ≡ true → refuse 2 0 ≡ widthAnswer (drawing lines bytes lengths columns text)
         unfolding widthAnswer linesOf
-        large t = rw (← told, sized, lines-left lengths columns text some-length, ← large-told, t)
+        width-large t = rw (← told, sized, lines-left lengths columns text some-length, ← large-told, t)
 
-        module _ (small : b ≡ false) (p : Place) (place-told : placeOf p ≡ firstAt (λ line. not (wellFormed line)) 0 (splitText lengths text)) where
+        pub large-limits : b ≡ false → Limited lengths columns text
+        large-limits small = large-limited lengths columns text agrees b large-told small
+
+        module _ (small : b ≡ false) (glyphs offsets counts : List ℕ) (p : Place) (scanned : LinesScanned lengths columns text glyphs offsets counts p) where
           outside-told : outsideSet (linesFrom lengths columns text) ≡ placeOf p
           unfolding outsideSet
-          outside-told = outside-lines (splitText lengths text) columns 0 ∙ sym place-told
+          outside-told = outside-lines (splitText lengths text) columns 0 ∙ sym (scanned .told)
 
-          pub outside : (y : ℕ) → p ≡ At y → refuse 3 y ≡ widthAnswer (drawing lines bytes lengths columns text)
+          pub width-outside : (y : ℕ) → p ≡ At y → refuse 3 y ≡ widthAnswer (drawing lines bytes lengths columns text)
           unfolding widthAnswer linesOf
-          outside y e = rw (← told, sized, lines-left lengths columns text some-length, ← large-told, small, outside-told, e)
+          width-outside y e = rw (← told, sized, lines-left lengths columns text some-length, ← large-told, small, outside-told, e)
 
           module _ (inside : p ≡ Nowhere) (top : List ℕ) (top-told : top ≡ trimEnd (getD (splitText lengths text) 0 noText)) (r : Bool) (rule-told : r ≡ isRule 0x2d top) where
             trimmed-told : trimmedAt (linesFrom lengths columns text) 0 ≡ top
@@ -121,12 +129,34 @@ module _ (lines bytes : ℕ) (lengths columns text : List ℕ) (a : Bool) (told 
             unfolding widthAnswer linesOf noRule
             rest-told = rw (← told, sized, lines-left lengths columns text some-length, ← large-told, small, outside-told, inside, trimmed-told, rule-told)
 
-            pub no-rule : not r ≡ true → refuse 4 0 ≡ widthAnswer (drawing lines bytes lengths columns text)
-            no-rule e = rw (rest-told, e)
+            pub width-no-rule : not r ≡ true → refuse 4 0 ≡ widthAnswer (drawing lines bytes lengths columns text)
+            width-no-rule e = rw (rest-told, e)
 
-            module _ (w : Bool) (wide-told : w ≡ ltb 128 (length top)) (rule : not r ≡ false) where
-              pub too-wide : w ≡ true → refuse 2 0 ≡ widthAnswer (drawing lines bytes lengths columns text)
-              too-wide h = rw (rest-told, rule, ← wide-told, h)
+            module _ (width : Column) (width-told : width .0 ≡ length top) (w : Bool) (wide-told : w ≡ ltb 128 (width .0)) (rule : not r ≡ false) where
+              wide : w ≡ ltb 128 (length top)
+              wide = wide-told ∙ ap (ltb 128) width-told
 
-              pub measured : w ≡ false → accept (length top) ≡ widthAnswer (drawing lines bytes lengths columns text)
-              measured h = rw (rest-told, rule, ← wide-told, h)
+              pub width-too-wide : w ≡ true → refuse 2 0 ≡ widthAnswer (drawing lines bytes lengths columns text)
+              width-too-wide h = rw (rest-told, rule, ← wide, h)
+
+              pub width-measured : w ≡ false → WidthTold (drawing lines bytes lengths columns text) glyphs offsets counts (Width width)
+              unfolding linesOf
+              width-measured h =
+                  record {
+                    told = ap accept width-told ∙ rw (rest-told, rule, ← wide, h);
+                    known = λ m e. scanned .known (ap placeOf inside);
+                    plainTop = λ m e. ap plain trimmed-told ∙ rule-plain 0x2d refl top (sym rule-told ∙ not-false r rule);
+                  }
+
+-- a refusal, by any of these laws
+pub refused-told : (d : FlatDrawing) (glyphs offsets counts : List ℕ) (number place : ℕ) → refuse number place ≡ widthAnswer d → WidthTold d glyphs offsets counts (Refused number place)
+refused-told d glyphs offsets counts number place e =
+    record {
+      told = e;
+      known = λ m e. absurd (let z : _≡_ {A = ℕ} 0 1 = cc in omega arith);
+      plainTop = λ m e. absurd (let z : _≡_ {A = ℕ} 0 1 = cc in omega arith);
+    }
+
+-- a rule is plain
+pub rule-told-plain : (top : List ℕ) (r : Bool) → r ≡ isRule 0x2d top → not r ≡ false → plain top ≡ true
+rule-told-plain top r told rule = rule-plain 0x2d refl top (sym told ∙ not-false r rule)

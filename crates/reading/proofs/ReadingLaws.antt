@@ -17,13 +17,13 @@ use Rattle.grid.specs.Read.{drawingTooLarge, outsideSet, noRule}
 use Rattle.grid.specs.Flat.{FlatDrawing, drawingContradicts, linesFrom, linesOf}
 use Rattle.grid.specs.LayoutCall.{LayoutSpace, spaceShort, slotSpace, rectSpace, spaces, drawing}
 use Rattle.representation.specs.LayoutParts.{rectsAnswer, widthAnswer}
-use Rattle.representation.specs.Arrays.{Roomy}
 use Rattle.representation.proofs.LayoutPartsLaws.{short-rects, unwide-rects, wide-rects}
 use Rattle.representation.specs.Sheet.{Sheet}
+use Rattle.slots.specs.Filling.{Fillable}
 use Rattle.reading.specs.declared.Measured.{Measured}
 use Rattle.reading.specs.declared.Measured.the-variants.{Width, Refused}
 use Rattle.reading.specs.declared.Outcome.{Outcome}
-use Rattle.reading.specs.Call.{checkedOf, Through, SheetArrays, sheetOf, Reading}
+use Rattle.reading.specs.Call.{WidthTold, ThroughAll, SheetArrays, sheetOf, Reading}
 use Rattle.reading.proofs.WidthLaws.{sheet-passed, bytes-few, width-told, width-fits, rooms}
 
 -- ---- no refusal has number 0
@@ -63,17 +63,25 @@ module _ (sheet : SheetArrays) (s : Outcome) where
     pub without-space : b ≡ true → (s .number ≡ 13) × (s .place ≡ 0) × (s .cells ≡ 0) → Reading (rectsAnswer w d) sheet s
     without-space is-short told = refused-by (short-rects w d (sym short ∙ is-short)) (λ z. omega arith) told
 
-    pub without-width : b ≡ false → (m : Measured) (number place : ℕ) → m ≡ Refused number place → checkedOf m ≡ widthAnswer d
+    pub without-width : b ≡ false → (glyphs offsets counts : List ℕ) (m : Measured) (number place : ℕ) → m ≡ Refused number place → WidthTold d glyphs offsets counts m
         → (s .number ≡ number) × (s .place ≡ place) × (s .cells ≡ 0) → Reading (rectsAnswer w d) sheet s
-    without-width enough m number place is e told =
-        let answered : refuse number place ≡ widthAnswer d = rw is at e in
+    without-width enough glyphs offsets counts m number place is e told =
+        let answered : refuse number place ≡ widthAnswer d = rw is at (e .told) in
         refused-by (unwide-rects w d (sym short ∙ enough) answered) (width-numbered d number place (sym answered)) told
 
--- ---- a drawing whose width is answered, in space enough
+-- ---- working space that is enough has room for what the checks leave
+pub checks-room : (glyphs offsets down right rects : List ℕ) (b : Bool) → b ≡ spaceShort (spaces glyphs offsets down right rects) → b ≡ false
+    → (slotSpace ≤ length glyphs) × (slotSpace ≤ length offsets) × (128 ≤ length rects)
+checks-room glyphs offsets down right rects b short enough =
+    let room = rooms glyphs offsets down right rects (sym short ∙ enough) in
+    (room .0, room .1, omega (arith, room .4))
+
+-- ---- a drawing whose width is answered, in space enough: glyphs₁, offsets₁ and rects₁ as the checks leave them
 module _ (lines bytes : ℕ) (lengths columns text glyphs₀ offsets₀ down right rects₀ : List ℕ) (b : Bool) (short : b ≡ spaceShort (spaces glyphs₀ offsets₀ down right rects₀)) (enough : b ≡ false)
-    (m : Measured) (width : Column) (is : m ≡ Width width) (e : checkedOf m ≡ widthAnswer (drawing lines bytes lengths columns text)) where
+    (glyphs₁ offsets₁ rects₁ : List ℕ) (kept : (length glyphs₁ ≡ length glyphs₀) × (length offsets₁ ≡ length offsets₀) × (length rects₁ ≡ length rects₀))
+    (m : Measured) (width : Column) (is : m ≡ Width width) (e : WidthTold (drawing lines bytes lengths columns text) glyphs₁ offsets₁ rects₁ m) where
   answered : accept (width .0) ≡ widthAnswer (drawing lines bytes lengths columns text)
-  answered = rw is at e
+  answered = rw is at (e .told)
 
   sheet : Sheet lengths columns text
   sheet = sheet-passed lines bytes lengths columns text (width .0) answered
@@ -81,25 +89,37 @@ module _ (lines bytes : ℕ) (lengths columns text glyphs₀ offsets₀ down rig
   room : (slotSpace ≤ length glyphs₀) × (slotSpace ≤ length offsets₀) × (slotSpace ≤ length down) × (slotSpace ≤ length right) × (rectSpace ≤ length rects₀)
   room = rooms glyphs₀ offsets₀ down right rects₀ (sym short ∙ enough)
 
-  pub traceable : Sheet lengths columns text × (Roomy (length lengths) (width .0) glyphs₀ offsets₀
-      × (((slotSpace ≤ length down) × (slotSpace ≤ length right) × (rectSpace ≤ length rects₀)) × (width .0 ≡ length (trimmedAt (linesFrom lengths columns text) 0))))
-  traceable = (
-    sheet,
-    (
-      record { heightFits = sheet .fewLines; widthFits = width-fits lines bytes lengths columns text (width .0) answered; glyphRoom = room .0; offsetRoom = room .1 },
-      ((room .2, room .3, room .4), width-told lines bytes lengths columns text (width .0) answered),
-    ),
-  )
+  pub width-fillable : Fillable lengths columns text (width .0) rects₁ glyphs₁ offsets₁
+  unfolding linesOf
+  width-fillable =
+      record {
+        sheet = sheet;
+        roomy =
+            record {
+              heightFits = sheet .fewLines;
+              widthFits = width-fits lines bytes lengths columns text (width .0) answered;
+              glyphRoom = rw (kept .0) (room .0);
+              offsetRoom = rw (kept .1) (room .1);
+            };
+        countRoom = rw (kept .2) (omega (arith, room .4));
+        wide = width-told lines bytes lengths columns text (width .0) answered;
+        plainTop = e .plainTop width is;
+        scanned = e .known width is;
+      }
+
+  pub width-room : (slotSpace ≤ length down) × (slotSpace ≤ length right) × (rectSpace ≤ length rects₁)
+  width-room = (room .2, room .3, rw (kept .2) (room .4))
 
   told : width .0 ≡ gridOf (linesFrom lengths columns text) .width
   unfolding gridOf
   told = width-told lines bytes lengths columns text (width .0) answered
 
-  pub traced : (glyphs offsets rects : List ℕ) (s : Outcome) → ((length glyphs ≡ length glyphs₀) × (length offsets ≡ length offsets₀) × (length rects ≡ length rects₀))
-      × Through (gridOf (linesFrom lengths columns text)) glyphs offsets rects s
+  pub width-traced : (glyphs offsets rects : List ℕ) (s : Outcome) → (length glyphs ≡ length glyphs₁) × (length offsets ≡ length offsets₁) × (length rects ≡ length rects₁)
+      → ThroughAll lengths text (width .0) rects₁ glyphs₁ offsets₁ glyphs offsets rects s
       → Reading (rectsAnswer (spaces glyphs₀ offsets₀ down right rects₀) (drawing lines bytes lengths columns text)) (sheetOf lengths columns text glyphs offsets rects) s
   unfolding linesOf
-  traced glyphs offsets rects s (kept, through) =
+  width-traced glyphs offsets rects s still all =
+      let through = all columns width-fillable in
       let grid = wide-rects (spaces glyphs₀ offsets₀ down right rects₀) (drawing lines bytes lengths columns text) (sym short ∙ enough) answered in
       record {
         refused = λ nonzero. grid ∙ through .refused nonzero;
@@ -111,10 +131,10 @@ module _ (lines bytes : ℕ) (lengths columns text glyphs₀ offsets₀ down rig
               record {
                 heightFits = sheet .fewLines;
                 widthFits = omega (arith, through .wide, told, width-fits lines bytes lengths columns text (width .0) answered);
-                glyphRoom = rw (kept .0) (room .0);
-                offsetRoom = rw (kept .1) (room .1);
+                glyphRoom = rw (still .0, kept .0) (room .0);
+                offsetRoom = rw (still .1, kept .1) (room .1);
               };
-          rectRoom = rw (kept .2) (room .4);
+          rectRoom = rw (still .2, kept .2) (room .4);
           through = through;
           complete = z;
         };

@@ -17,14 +17,14 @@ use Rattle.grid.proofs.GlyphLaws.{trace-same}
 use Rattle.representation.proofs.HoldsLaws.{array-same}
 use Rattle.grid.proofs.SlotLaws.{lines-length}
 use Rattle.grid.proofs.CoverTheorems.{stopped-six-or-seven}
-use Rattle.slots.specs.Filling.{AllFilled}
+use Rattle.slots.specs.Filling.{AllFilled, FilledAll}
 use Rattle.slots.specs.declared.Filled.{Filled}
 use Rattle.trace.specs.Tracing.{tracedOf, countOf}
 use Rattle.trace.specs.declared.Traced as tracing
 use Rattle.trace.specs.declared.Traced.the-variants.{Covered, Stopped}
 use Rattle.trace.specs.Count.{numberOf}
 use Rattle.trace.specs.declared.count.Counted.{Counted}
-use Rattle.reading.specs.Call.{Through}
+use Rattle.reading.specs.Call.{Through, ThroughAll}
 
 module _ (lengths columns text rects : List ℕ) {glyphs₀ offsets₀ glyphs offsets : List ℕ} {f : Filled}
     (all : AllFilled (gridOf (linesFrom lengths columns text)) glyphs₀ offsets₀ glyphs offsets f)
@@ -33,7 +33,7 @@ module _ (lengths columns text rects : List ℕ) {glyphs₀ offsets₀ glyphs of
   unfolding gridOf
   told = is
 
-  pub unfilled : not (f .full) ≡ true
+  unfilled : not (f .full) ≡ true
       → Through (gridOf (linesFrom lengths columns text)) glyphs offsets rects (record { number = 5; place = f .place; width = width; cells = 0; separators = f .separators })
   unfolding gridAnswer
   unfilled fails =
@@ -92,8 +92,20 @@ module _ (lengths columns text rects : List ℕ) {glyphs₀ offsets₀ glyphs of
           separated = λ z. absurd (some z);
         }
 
-    pub traced-through : (t : tracing.Traced) (k : Counted) → (k .number ≡ numberOf t) × (k .cells ≡ countOf t)
+    traced-through : (t : tracing.Traced) (k : Counted) → (k .number ≡ numberOf t) × (k .cells ≡ countOf t)
         → tracedOf t rects ≡ trace (arrayGrid (length lengths) (width .0) glyphs) → countOf t ≤ 1024
         → Through (gridOf (linesFrom lengths columns text)) glyphs offsets rects (record { number = k .number; place = 0; width = width; cells = k .cells; separators = f .separators })
     traced-through (Covered n) k (number, cells) traced few = rw (number, cells) (through n refl traced few)
     traced-through (Stopped m) k (number, cells) traced few = rw (number, cells) (not-through m refl traced)
+
+-- ---- of whatever columns the lines have
+module _ (lengths text : List ℕ) (width : Column) (counts glyphs₀ offsets₀ glyphs offsets rects : List ℕ) (f : Filled)
+    (all : FilledAll lengths text (width .0) counts glyphs₀ offsets₀ glyphs offsets f) where
+  pub through-unfilled : not (f .full) ≡ true
+      → ThroughAll lengths text (width .0) counts glyphs₀ offsets₀ glyphs offsets rects (record { number = 5; place = f .place; width = width; cells = 0; separators = f .separators })
+  through-unfilled fails columns fillable = unfilled lengths columns text rects (all columns fillable) (fillable .wide) fails
+
+  pub through-traced : not (f .full) ≡ false → (t : tracing.Traced) (k : Counted) → (k .number ≡ numberOf t) × (k .cells ≡ countOf t)
+      → tracedOf t rects ≡ trace (arrayGrid (length lengths) (width .0) glyphs) → countOf t ≤ 1024
+      → ThroughAll lengths text (width .0) counts glyphs₀ offsets₀ glyphs offsets rects (record { number = k .number; place = 0; width = width; cells = k .cells; separators = f .separators })
+  through-traced passes t k counted traced few columns fillable = traced-through lengths columns text rects (all columns fillable) (fillable .wide) passes t k counted traced few

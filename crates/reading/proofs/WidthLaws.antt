@@ -1,33 +1,27 @@
 -- What a drawing has passed once its width is answered, and what working space that is not short has.
-use Prim.Native.Nat.{ℕ, zero, suc, _≤_}
+use Prim.Native.Nat.{ℕ, _≤_}
 use mathlib.Core.Path.{_≡_, refl, sym}
 use mathlib.Core.Bool.{false, _||_}
 use mathlib.Core.Option.{none}
-use mathlib.Core.List.{List, [], _∷_}
+use mathlib.Core.List.{List}
 use native.Mathlib.Omega.{arith}
 use lib.Dec.{ltb}
-use lib.ListN.{length, getD}
+use lib.ListN.{length}
 use borrow.Author.Tests.{ltb-false}
-use Rattle.seq.specs.Lists.{any, isEmpty}
+use Rattle.seq.specs.Lists.{isEmpty}
 use Rattle.seq.proofs.Tests.{or-neither}
 use Rattle.grid.specs.Answer.{accept, refuseIf, refuseAt}
-use Rattle.grid.specs.Limits.{maxLines, maxLineBytes, maxBytes, maxWidth, maxOrigin}
+use Rattle.grid.specs.Limits.{maxBytes, maxWidth}
 use Rattle.grid.specs.Slots.{trimmedAt}
 use Rattle.grid.specs.Read.{drawingTooLarge, outsideSet, noRule}
 use Rattle.grid.specs.Flat.{drawingContradicts, linesFrom, linesOf}
 use Rattle.grid.specs.LayoutCall.{slotSpace, rectSpace, spaceShort, spaces, drawing}
 use Rattle.representation.specs.LayoutParts.{widthAnswer}
 use Rattle.grid.proofs.ReadLaws.{passed-if, passed-at}
-use Rattle.reading.specs.Agreement.{Agree, anyOver}
-use Rattle.reading.proofs.limits.LimitLaws.{limits-apart}
+use Rattle.reading.specs.Agreement.{Agree, Limited}
+use Rattle.reading.proofs.limits.LimitLaws.{large-limited}
 use Rattle.representation.specs.Sheet.{Sheet}
 use Rattle.reading.proofs.CheckedLaws.{agrees}
-
-pub none-over-limit : (limit : ℕ) (numbers : List ℕ) → anyOver limit numbers ≡ false → (i : ℕ) → getD numbers i 0 ≤ limit
-unfolding anyOver any
-none-over-limit limit [] e i = omega arith
-none-over-limit limit (n ∷ ns) e zero = ltb-false limit n (or-neither (ltb limit n) (any (λ n. ltb limit n) ns) e .0)
-none-over-limit limit (n ∷ ns) e (suc i) = none-over-limit limit ns (or-neither (ltb limit n) (any (λ n. ltb limit n) ns) e .1) i
 
 -- ---- a drawing whose width is answered
 module _ (lines bytes : ℕ) (lengths columns text : List ℕ) (width : ℕ) (e : accept width ≡ widthAnswer (drawing lines bytes lengths columns text)) where
@@ -55,29 +49,22 @@ module _ (lines bytes : ℕ) (lengths columns text : List ℕ) (width : ℕ) (e 
   agreed : Agree lengths columns text
   agreed = agrees lines bytes lengths columns text false (sym (checks .0)) refl
 
-  limits : (ltb maxLines (length lengths) ≡ false) × (anyOver maxLineBytes lengths ≡ false) × (anyOver maxOrigin columns ≡ false) × (ltb maxBytes (length text) ≡ false)
-  limits =
-      let most = ltb maxLines (length lengths) in
-      let s = anyOver maxLineBytes lengths in
-      let t = anyOver maxOrigin columns in
-      let p = or-neither (most || (s || t)) (ltb maxBytes (length text)) (rw (limits-apart lengths columns text agreed) at (checks .1)) in
-      let q = or-neither most (s || t) (p .0) in
-      let r = or-neither s t (q .1) in
-      (q .0, r .0, r .1, p .1)
+  limited : Limited lengths columns text
+  limited = large-limited lengths columns text agreed false (sym (checks .1)) refl
 
   pub sheet-passed : Sheet lengths columns text
   sheet-passed =
       record {
         columnsAgree = agreed .columnsAgree;
         bytesAgree = agreed .bytesAgree;
-        fewLines = ltb-false maxLines (length lengths) (limits .0);
-        shortLines = none-over-limit maxLineBytes lengths (limits .1);
-        nearColumns = none-over-limit maxOrigin columns (limits .2);
+        fewLines = limited .fewLines;
+        shortLines = limited .shortLines;
+        nearColumns = limited .nearColumns;
         inSet = checks .2;
       }
 
   pub bytes-few : length text ≤ maxBytes
-  bytes-few = ltb-false maxBytes (length text) (limits .3)
+  bytes-few = limited .fewBytes
 
   pub width-told : width ≡ length (trimmedAt (linesFrom lengths columns text) 0)
   width-told = checks .4

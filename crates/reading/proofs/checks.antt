@@ -1,2 +1,3 @@
 -- Laws of the checks 13 and 3.
 pub mod CheckLaws
+pub mod ScanLaws

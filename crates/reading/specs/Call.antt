@@ -1,17 +1,21 @@
 -- The arguments and answers of reading, in the terms of the definitions.
 use Prim.Native.Nat.{ℕ, _≤_}
 use mathlib.Core.Path.{_≡_}
+use mathlib.Core.Bool.{true}
 use mathlib.Core.List.{List}
 use lib.ListN.{length}
+use Rattle.text.specs.declared.Column.{Column}
+use Rattle.text.specs.Utf8.{plain}
 use Rattle.grid.specs.Answer.{Answer, accept, refuse}
 use Rattle.grid.specs.Limits.{maxBytes}
 use Rattle.grid.specs.Values.{Line, Rect}
-use Rattle.grid.specs.Slots.{Grid, gridOf}
-use Rattle.grid.specs.Flat.{linesFrom}
+use Rattle.grid.specs.Slots.{Grid, gridOf, trimmedAt}
+use Rattle.grid.specs.Flat.{FlatDrawing, linesFrom, linesOf}
 use Rattle.grid.specs.LayoutCall.{rectSpace}
-use Rattle.representation.specs.LayoutParts.{gridAnswer}
+use Rattle.representation.specs.LayoutParts.{widthAnswer, gridAnswer}
 use Rattle.representation.specs.Arrays.{Holds, Roomy, rectsOf}
-use Rattle.slots.specs.Filling.{separatorLines}
+use Rattle.slots.specs.Filling.{separatorLines, Fillable}
+use Rattle.slots.specs.Scan.{SheetScanned}
 use Rattle.representation.specs.Sheet.{Sheet}
 use Rattle.reading.specs.declared.Measured.{Measured}
 use Rattle.reading.specs.declared.Measured.the-variants.{Width, Refused}
@@ -21,6 +25,12 @@ use Rattle.reading.specs.declared.Outcome.{Outcome}
 abbrev pub checkedOf : Measured → Answer ℕ
 checkedOf (Width w) = accept (w .0)
 checkedOf (Refused number place) = refuse number place
+
+-- and leave: of a drawing that has a width its lines scanned, the first one plain
+pub record WidthTold (d : FlatDrawing) (glyphs offsets counts : List ℕ) (r : Measured) : Type 0 where
+  pub told : checkedOf r ≡ widthAnswer d
+  pub known : (w : Column) → r ≡ Width w → SheetScanned (linesOf d) glyphs offsets counts
+  pub plainTop : (w : Column) → r ≡ Width w → plain (trimmedAt (linesOf d) 0) ≡ true
 
 -- what filling and tracing leave; number 0 is acceptance
 pub record Through (g : Grid) (glyphs offsets rects : List ℕ) (s : Outcome) : Type 0 where
@@ -32,6 +42,11 @@ pub record Through (g : Grid) (glyphs offsets rects : List ℕ) (s : Outcome) : 
   pub separatorsRoom : length (s .separators .lines) ≡ 128
   pub fewSeparators : s .separators .count ≤ 128
   pub separated : s .number ≡ 0 → separatorLines (s .separators) ≡ g .separators
+
+-- of whatever columns the lines have with which they were scanned
+abbrev pub ThroughAll : (lengths text : List ℕ) → ℕ → (counts glyphs offsets glyphs′ offsets′ rects′ : List ℕ) → Outcome → Type 0
+ThroughAll lengths text width counts glyphs offsets glyphs′ offsets′ rects′ s =
+    (columns : List ℕ) → Fillable lengths columns text width counts glyphs offsets → Through (gridOf (linesFrom lengths columns text)) glyphs′ offsets′ rects′ s
 
 -- the arrays of a drawing, with the glyphs, offsets and rectangles that reading leaves in its working space
 pub record SheetArrays : Type 0 where

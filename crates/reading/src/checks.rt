@@ -1,5 +1,8 @@
 // Reading's checks 13 and 3, before the slots; the Rust has neither.
+use slots::scan::scan_next;
+use text::Column;
 use utf8::line_text::well_formed;
+ghost use Prim.Native.Nat.{_≤_};
 ghost use mathlib.Core.Path.{_≡_};
 ghost use mathlib.Core.Bool.{not};
 ghost use lib.ListN.{length};
@@ -7,8 +10,9 @@ ghost use lib.Dec.{eqb};
 ghost use Rattle.seq.specs.Lists.{sum, firstAt};
 ghost use Rattle.text.specs.Utf8.{wellFormed};
 ghost use Rattle.grid.specs.Flat.{drawingContradicts, splitText};
-ghost use Rattle.grid.specs.LayoutCall.{drawing};
-ghost use Rattle.reading.specs.Checks.{placeOf};
+ghost use Rattle.grid.specs.LayoutCall.{slotSpace, drawing};
+ghost use Rattle.reading.specs.Agreement.{Limited};
+ghost use Rattle.reading.specs.Checks.{placeOf, LinesScanned};
 
 // The first line at fault, or none.
 pub enum Place {
@@ -61,6 +65,35 @@ pub fn first_outside(lengths: &[u16], text: &[u8]) -> Place
     while y < lengths.len() {
         let end = at + lengths[y] as usize;
         if !well_formed(&text[at..end]) {
+            return Place::At(y);
+        }
+        at = end;
+        y += 1;
+    }
+    Place::Nowhere
+}
+
+// first_outside, of a drawing's lines: what is known of each of them afterwards goes to the arrays.
+pub fn scan_lines(
+    lengths: &[u16],
+    columns: &[u16],
+    text: &[u8],
+    glyphs: &mut [u8],
+    offsets: &mut [u16],
+    counts: &mut [u8],
+) -> Place
+    requires { ⌜ Limited (now lengths) (now columns) (now text) ⌝ }
+    requires { ⌜ (slotSpace ≤ length (now glyphs)) × (slotSpace ≤ length (now offsets)) × (128 ≤ length (now counts)) ⌝ }
+    ensures { λ r.
+        ⌜ LinesScanned (now (lengths .entry)) (now (columns .entry)) (now (text .entry))
+        (now (glyphs .exit)) (now (offsets .exit)) (now (counts .exit)) r ⌝ }
+{
+    let mut at = 0;
+    let mut y = 0;
+    while y < lengths.len() {
+        let end = at + lengths[y] as usize;
+        let column = Column(columns[y] as usize);
+        if !scan_next(&text[at..end], column, y, glyphs, offsets, counts) {
             return Place::At(y);
         }
         at = end;

@@ -4,7 +4,7 @@ pub mod limits;
 
 use crate::checks::Place;
 use crate::checks::contradicts;
-use crate::checks::first_outside;
+use crate::checks::scan_lines;
 use crate::limits::space_short;
 use crate::limits::too_large;
 use crate::limits::too_wide;
@@ -12,24 +12,24 @@ use rule_lines::rule::is_rule;
 use rule_lines::trim::trim_end;
 use slots::Separators;
 use slots::fill::fill;
+use slots::line::plain_width;
 use slots::reach::reach_down;
 use slots::reach::reach_right;
 use text::Column;
 use trace::count::count;
 use trace::trace;
-ghost use Prim.Native.Nat.{_≤_, _<_};
+ghost use Prim.Native.Nat.{ℕ, _≤_, _<_};
 ghost use mathlib.Core.Path.{_≡_};
+ghost use mathlib.Core.List.{List};
 ghost use lib.ListN.{length, getD};
 ghost use Rattle.seq.specs.Lists.{sum};
 ghost use Rattle.text.specs.Trim.{trimEnd};
 ghost use Rattle.text.specs.Lines.{noText};
-ghost use Rattle.grid.specs.Slots.{gridOf, trimmedAt};
-ghost use Rattle.grid.specs.Flat.{splitText, linesFrom};
+ghost use Rattle.grid.specs.Flat.{splitText};
 ghost use Rattle.grid.specs.LayoutCall.{slotSpace, rectSpace, spaces, drawing};
-ghost use Rattle.representation.specs.LayoutParts.{rectsAnswer, widthAnswer};
-ghost use Rattle.representation.specs.Arrays.{Roomy};
-ghost use Rattle.representation.specs.Sheet.{Sheet};
-ghost use Rattle.reading.specs.Call.{checkedOf, Through, sheetOf, Reading};
+ghost use Rattle.representation.specs.LayoutParts.{rectsAnswer};
+ghost use Rattle.slots.specs.Filling.{Fillable};
+ghost use Rattle.reading.specs.Call.{WidthTold, ThroughAll, sheetOf, Reading};
 
 // What the checks up to the width give.
 pub enum Measured {
@@ -62,9 +62,22 @@ pub fn trimmed_line<'a>(lengths: &[u16], text: &'a [u8], y: usize) -> &'a [u8]
     trim_end(&text[at..end])
 }
 
-// The checks up to the width.
-fn checked(lines: usize, bytes: usize, lengths: &[u16], columns: &[u16], text: &[u8]) -> Measured
-    ensures { λ r. ⌜ checkedOf r ≡ widthAnswer (drawing lines bytes (now (lengths .entry)) (now (columns .entry)) (now (text .entry))) ⌝ }
+// The checks up to the width. Each line's slots, or what else is known of it, are left in the working
+// space on the way.
+fn checked(
+    lines: usize,
+    bytes: usize,
+    lengths: &[u16],
+    columns: &[u16],
+    text: &[u8],
+    glyphs: &mut [u8],
+    offsets: &mut [u16],
+    counts: &mut [u8],
+) -> Measured
+    requires { ⌜ (slotSpace ≤ length (now glyphs)) × (slotSpace ≤ length (now offsets)) × (128 ≤ length (now counts)) ⌝ }
+    ensures { λ r.
+        let given = drawing lines bytes (now (lengths .entry)) (now (columns .entry)) (now (text .entry)) in
+        ⌜ WidthTold given (now (glyphs .exit)) (now (offsets .exit)) (now (counts .exit)) r ⌝ }
 {
     if contradicts(lines, bytes, lengths, columns, text) {
         return Measured::Refused {
@@ -84,7 +97,7 @@ fn checked(lines: usize, bytes: usize, lengths: &[u16], columns: &[u16], text: &
             place: 0,
         };
     }
-    if let Place::At(y) = first_outside(lengths, text) {
+    if let Place::At(y) = scan_lines(lengths, columns, text, glyphs, offsets, counts) {
         return Measured::Refused {
             number: 3,
             place: y,
@@ -97,7 +110,7 @@ fn checked(lines: usize, bytes: usize, lengths: &[u16], columns: &[u16], text: &
             place: 0,
         };
     }
-    let width = Column(top.len());
+    let width = plain_width(top);
     if too_wide(width) {
         return Measured::Refused {
             number: 2,
@@ -107,10 +120,9 @@ fn checked(lines: usize, bytes: usize, lengths: &[u16], columns: &[u16], text: &
     Measured::Width(width)
 }
 
-// The checks of the slots, and tracing.
+// The checks of the slots, and tracing. `rects` holds at first how many columns the lines have.
 fn trace_lines(
     lengths: &[u16],
-    columns: &[u16],
     text: &[u8],
     width: Column,
     glyphs: &mut [u8],
@@ -119,18 +131,13 @@ fn trace_lines(
     right: &mut [u8],
     rects: &mut [u8],
 ) -> Outcome
-    requires { ⌜ Sheet (now lengths) (now columns) (now text) ⌝ }
-    requires { ⌜ Roomy (length (now lengths)) (width .0) (now glyphs) (now offsets) ⌝ }
+    requires { ⌜ ((columns : List ℕ) × Fillable (now lengths) columns (now text) (width .0) (now rects) (now glyphs) (now offsets)) ⌝ }
     requires { ⌜ (slotSpace ≤ length (now down)) × (slotSpace ≤ length (now right)) × (rectSpace ≤ length (now rects)) ⌝ }
-    requires { ⌜ width .0 ≡ length (trimmedAt (linesFrom (now lengths) (now columns) (now text)) 0) ⌝ }
     ensures { λ r.
-        let drawn = linesFrom (now (lengths .entry)) (now (columns .entry)) (now (text .entry)) in
-        let g = gridOf drawn in
-        ⌜ ((length (now (glyphs .exit)) ≡ length (now (glyphs .entry))) × (length (now (offsets .exit)) ≡ length (now (offsets .entry)))
-        × (length (now (rects .exit)) ≡ length (now (rects .entry))))
-        × Through g (now (glyphs .exit)) (now (offsets .exit)) (now (rects .exit)) r ⌝ }
+        ⌜ ThroughAll (now (lengths .entry)) (now (text .entry)) (width .0) (now (rects .entry)) (now (glyphs .entry)) (now (offsets .entry))
+        (now (glyphs .exit)) (now (offsets .exit)) (now (rects .exit)) r ⌝ }
 {
-    let filled = fill(lengths, columns, text, width.0, glyphs, offsets);
+    let filled = fill(lengths, text, width, rects, glyphs, offsets);
     let separators = filled.separators;
     if !filled.full {
         return Outcome {
@@ -200,11 +207,10 @@ pub fn read(
     ) {
         return refusal(13, 0);
     }
-    match checked(lines, bytes, lengths, columns, text) {
+    match checked(lines, bytes, lengths, columns, text, glyphs, offsets, rects) {
         Measured::Refused { number, place } => refusal(number, place),
         Measured::Width(width) => trace_lines(
             lengths,
-            columns,
             text,
             width,
             glyphs,

@@ -10,6 +10,7 @@ use Rattle.text.specs.Utf8.{charIndices, wellFormed, plain}
 use Rattle.text.specs.Trim.{trimEnd}
 use Rattle.grid.specs.Values.{Line, noLine}
 use Rattle.grid.specs.Slots.{Slot, glyphOf, slotsFrom}
+use Rattle.grid.specs.LayoutCall.{slotSpace}
 use Rattle.representation.specs.Arrays.{glyphCode, glyphCodes, slotBytes}
 use Rattle.slots.specs.Replaced.{replaced}
 use Rattle.slots.specs.declared.scan.Scanned.{Scanned}
@@ -61,6 +62,15 @@ pub record LineKnown (text : List ℕ) (column at : ℕ) (glyphs offsets : List 
 abbrev pub SheetScanned : (lines : List Line) → (glyphs offsets counts : List ℕ) → Type 0
 SheetScanned lines glyphs offsets counts =
     (y : ℕ) → y < length lines → LineKnown (getD lines y noLine .text) (getD lines y noLine .column) (y * 128) glyphs offsets (getD counts y 0)
+
+-- a line within the limits, and room for what is known of it
+pub record ScanRoom (text : List ℕ) (column y : ℕ) (glyphs offsets counts : List ℕ) : Type 0 where
+  pub shortLine : length text ≤ 512
+  pub nearColumn : column ≤ 255
+  pub fewLines : y < 128
+  pub glyphRoom : slotSpace ≤ length glyphs
+  pub offsetRoom : slotSpace ≤ length offsets
+  pub countRoom : 128 ≤ length counts
 
 -- line y scanned: whether it is UTF-8 of the set, and what is known of it
 pub record NextScanned (text : List ℕ) (column y : ℕ) (glyphs offsets counts glyphs′ offsets′ counts′ : List ℕ) (r : Bool) : Type 0 where

@@ -11,11 +11,10 @@ use text::Column;
 use utf8::line_text::is_plain;
 use utf8::several::is_three;
 use utf8::several::is_two;
-ghost use Prim.Native.Nat.{_+_, _≤_, _<_};
+ghost use Prim.Native.Nat.{_+_, _≤_};
 ghost use mathlib.Core.Path.{_≡_};
 ghost use lib.ListN.{length};
-ghost use Rattle.grid.specs.LayoutCall.{slotSpace};
-ghost use Rattle.slots.specs.Scan.{PutWithin, LineScanned, clipped as clippedOf, NextScanned};
+ghost use Rattle.slots.specs.Scan.{PutWithin, LineScanned, clipped as clippedOf, ScanRoom, NextScanned};
 
 // Stands for the number of columns of a plain line, which has a slot for each byte.
 pub const PLAIN: u8 = 255;
@@ -118,8 +117,7 @@ pub fn scan_next(
     offsets: &mut [u16],
     counts: &mut [u8],
 ) -> bool
-    requires { ⌜ (y < 128) × (column .0 ≤ 255) × (length (now text) ≤ 512) ⌝ }
-    requires { ⌜ (slotSpace ≤ length (now glyphs)) × (slotSpace ≤ length (now offsets)) × (128 ≤ length (now counts)) ⌝ }
+    requires { ⌜ ScanRoom (now text) (column .0) y (now glyphs) (now offsets) (now counts) ⌝ }
     ensures { λ r.
         ⌜ NextScanned (now (text .entry)) (column .0) y
         (now (glyphs .entry)) (now (offsets .entry)) (now (counts .entry)) (now (glyphs .exit)) (now (offsets .exit)) (now (counts .exit)) r ⌝ }

@@ -1,17 +1,18 @@
 -- Laws of the limits of a drawing.
-use Prim.Native.Nat.{ℕ, _+_, _≤_, _<_}
-use mathlib.Core.Path.{_≡_, _∙_}
+use Prim.Native.Nat.{ℕ, zero, suc, _+_, _≤_, _<_}
+use mathlib.Core.Path.{_≡_, sym, _∙_}
 use mathlib.Core.Bool.{Bool, true, false, _||_}
-use mathlib.Core.List.{List}
+use mathlib.Core.List.{List, [], _∷_}
 use native.Mathlib.Omega.{arith}
 use lib.Dec.{ltb}
 use lib.ListN.{length, drop, getD}
-use borrow.Author.Tests.{lt-ltb, le-ltb}
-use Rattle.seq.specs.Lists.{sum}
+use borrow.Author.Tests.{lt-ltb, le-ltb, ltb-false}
+use Rattle.seq.specs.Lists.{any, sum}
+use Rattle.seq.proofs.Tests.{or-neither}
 use Rattle.grid.specs.Limits.{maxLines, maxLineBytes, maxBytes, maxOrigin}
 use Rattle.grid.specs.Flat.{linesFrom}
 use Rattle.grid.specs.Read.{drawingTooLarge}
-use Rattle.reading.specs.Agreement.{Agree, anyOver}
+use Rattle.reading.specs.Agreement.{Agree, Limited, anyOver}
 use Rattle.seq.proofs.Walks.{any-step, any-end}
 use Rattle.grid.proofs.FlatLaws.{length-lines, lengths-lines, any-line-too-large}
 
@@ -29,6 +30,12 @@ module _ (limit : ℕ) (numbers : List ℕ) (i : ℕ) (passed : anyOver limit nu
   unfolding anyOver
   none-over h = rw (passed, any-end (λ n. ltb limit n) numbers i h)
 
+pub none-over-limit : (limit : ℕ) (numbers : List ℕ) → anyOver limit numbers ≡ false → (i : ℕ) → getD numbers i 0 ≤ limit
+unfolding anyOver any
+none-over-limit limit [] e i = omega arith
+none-over-limit limit (n ∷ ns) e zero = ltb-false limit n (or-neither (ltb limit n) (any (λ n. ltb limit n) ns) e .0)
+none-over-limit limit (n ∷ ns) e (suc i) = none-over-limit limit ns (or-neither (ltb limit n) (any (λ n. ltb limit n) ns) e .1) i
+
 -- ---- a drawing's limits
 module _ (lengths columns text : List ℕ) (agree : Agree lengths columns text) where
   pub limits-apart : drawingTooLarge (linesFrom lengths columns text)
@@ -44,3 +51,20 @@ module _ (lengths columns text : List ℕ) (agree : Agree lengths columns text) 
   pub other-limits : (s t : Bool) → length lengths ≤ maxLines → s ≡ anyOver maxLineBytes lengths → t ≡ anyOver maxOrigin columns
       → s || t || ltb maxBytes (length text) ≡ drawingTooLarge (linesFrom lengths columns text)
   other-limits s t h e f = rw (limits-apart, le-ltb maxLines (length lengths) h, e, f)
+
+  -- a drawing that is not too large
+  pub large-limited : (b : Bool) → b ≡ drawingTooLarge (linesFrom lengths columns text) → b ≡ false → Limited lengths columns text
+  large-limited b told small =
+      let most = ltb maxLines (length lengths) in
+      let s = anyOver maxLineBytes lengths in
+      let t = anyOver maxOrigin columns in
+      let p = or-neither (most || (s || t)) (ltb maxBytes (length text)) (sym limits-apart ∙ sym told ∙ small) in
+      let q = or-neither most (s || t) (p .0) in
+      let r = or-neither s t (q .1) in
+      record {
+        agreed = agree;
+        fewLines = ltb-false maxLines (length lengths) (q .0);
+        shortLines = none-over-limit maxLineBytes lengths (r .0);
+        nearColumns = none-over-limit maxOrigin columns (r .1);
+        fewBytes = ltb-false maxBytes (length text) (p .1);
+      }

@@ -54,10 +54,10 @@ trace-lines-requires c κs =
       (
         now (a .columns),
         width-fillable _ _ _ _ _ (now (a .glyphs)) (now (a .offsets)) (now (a .down)) (now (a .right)) (now (a .rects)) _ short (enough .if1 .left) _ _ _
-        (kept .0, kept .1 .0, kept .1 .1 .0) _ _ is (call .ensures),
+            (kept .0, kept .1 .0, kept .1 .1 .0) _ _ is (call .ensures),
       ),
       width-room _ _ _ _ _ (now (a .glyphs)) (now (a .offsets)) (now (a .down)) (now (a .right)) (now (a .rects)) _ short (enough .if1 .left) _ _ _
-      (kept .0, kept .1 .0, kept .1 .1 .0) _ _ is (call .ensures),
+          (kept .0, kept .1 .0, kept .1 .1 .0) _ _ is (call .ensures),
     )
 
 same-length : tie.Need-same-length

@@ -63,7 +63,9 @@ cast-measure-cell-4 : tie.Need-cast-measure-cell-4 Inv-loop μ-loop
 cast-measure-cell-4 c = fits-8-64 (c .shared-slice-known10 .given _)
 
 measure-cell-requires : tie.Need-measure-cell-requires Inv-loop μ-loop
-measure-cell-requires c κs = (c .before .before .before .before .before .before .before .before .before .before .before .before .before .pre .0, cell-framed _ _ _ _ _ _ _ _ (c .before .before .before .before .before .loop .inv .1) (c .before .before .before .before .loop-test .taken))
+measure-cell-requires c κs =
+    let turn : tie.In-loop Inv-loop μ-loop = search needs in
+    (search needs, cell-framed _ _ _ _ _ _ _ _ (turn .before .loop .inv .1) (turn .loop-test .taken))
 
 cast-counts : tie.Need-cast-counts Inv-loop μ-loop
 cast-counts c = search needs

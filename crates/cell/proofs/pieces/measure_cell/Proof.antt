@@ -40,8 +40,9 @@ loop-again c = ⊎-elim (λ w. search (needs, filled-measured)) (λ w. search (n
 
 returns : tie.Need-returns Inv-loop μ-loop
 returns c =
+    let start : tie.Start Inv-loop μ-loop = search needs in
     let m = c .before .loop .inv in
-    all-measured _ _ _ _ _ _ _ _ _ _ _ _ (m .2) (c .before .before .before .before .before .before .before .pre .1) (m .1) (omega arith)
+    all-measured _ _ _ _ _ _ _ _ _ _ _ _ (m .2) (start .pre .1) (m .1) (omega arith)
 
 pub measure-cell-spec : {M : Type 1} → statement M
 measure-cell-spec =

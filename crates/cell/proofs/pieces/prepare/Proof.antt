@@ -8,7 +8,10 @@ line-starts-requires : tie.Need-line-starts-requires
 line-starts-requires c κs = search needs
 
 measure-requires : tie.Need-measure-requires
-measure-requires c κs = measurable _ _ _ _ _ _ _ _ (c .before .before .before .before .before .before .before .before .before .before .before .before .before .pre) _ (c .before .before .before .before .line-starts .ensures)
+measure-requires c κs =
+    let start : tie.Start = search needs in
+    let started : tie.After-line-starts = search needs in
+    measurable _ _ _ _ _ _ _ _ (start .pre) _ (started .line-starts .ensures)
 
 same-length : tie.Need-same-length
 same-length c = search needs

@@ -5,26 +5,9 @@ use Rattle.cell.proofs.CallLaws.{cutting, cell-no-starts, cell-refused,
 use Rattle.cell.proofs.cell.Statement.{statement}
 use Rattle.cell.proofs.cell.Tie as tie
 
--- where there is room for the starts, and before that
-abbrev room : tie.After-read → tie.Else1
-room c = search needs
-
+-- the entry, from past the test of `starts`
 abbrev entry : tie.Else1 → tie.Start
 entry c = search needs
-
--- where reading has returned, before a refusal and before the cell is finished
-abbrev refused-read : tie.Then2 → tie.After-read
-refused-read c = search needs
-
-abbrev passed-read : tie.Else2 → tie.After-read
-passed-read c = search needs
-
--- where the cell is finished, and before that
-abbrev finished : tie.After-slice-known14 → tie.After-finish-cell
-finished c = search needs
-
-abbrev passed : tie.After-finish-cell → tie.Else2
-passed c = search needs
 
 returns : tie.Need-returns
 returns c = let start : tie.Start = search needs in cell-no-starts _ (now (start .args .starts)) _ _ _ (c .if1 .taken)
@@ -49,14 +32,16 @@ same-length-5 c = search needs
 
 returns-2 : tie.Need-returns-2
 returns-2 c =
-    let read = refused-read c in
-    cell-refused _ (now (entry (room read) .args .starts)) (room read .if1 .left) _ _ _ _ _ _ _ _ _ _ _ (read .read .ensures) (c .if2 .taken)
+    let read : tie.After-read = search needs in
+    let roomy : tie.Else1 = search needs in
+    cell-refused _ (now (entry roomy .args .starts)) (roomy .if1 .left) _ _ _ _ _ _ _ _ _ _ _ (read .read .ensures) (c .if2 .taken)
 
 finish-cell-requires : tie.Need-finish-cell-requires
 finish-cell-requires c κs =
     let passed : tie.Else2 = search needs in
-    let read = passed-read passed in
-    cutting _ _ _ _ _ _ _ (read .read .ensures .traced (passed .if2 .left)) (now (entry (room read) .args .starts)) (room read .if1 .left)
+    let read : tie.After-read = search needs in
+    let roomy : tie.Else1 = search needs in
+    cutting _ _ _ _ _ _ _ (read .read .ensures .traced (passed .if2 .left)) (now (entry roomy .args .starts)) (roomy .if1 .left)
 
 same-length-6 : tie.Need-same-length-6
 same-length-6 c = search needs
@@ -81,10 +66,12 @@ same-length-12 c = search needs
 
 returns-3 : tie.Need-returns-3
 returns-3 c =
-    let done = finished c in
-    let read = passed-read (passed done) in
-    cell-finished _ (now (entry (room read) .args .starts)) (room read .if1 .left) _ _ _ _ _ _ _ _ _ _ _ (read .read .ensures) (passed done .if2 .left)
-    _ _ (done .finish-cell .ensures)
+    let done : tie.After-finish-cell = search needs in
+    let passed : tie.Else2 = search needs in
+    let read : tie.After-read = search needs in
+    let roomy : tie.Else1 = search needs in
+    cell-finished _ (now (entry roomy .args .starts)) (roomy .if1 .left) _ _ _ _ _ _ _ _ _ _ _ (read .read .ensures) (passed .if2 .left) _ _
+    (done .finish-cell .ensures)
 
 pub cell-spec : {M : Type 1} → statement M
 cell-spec =

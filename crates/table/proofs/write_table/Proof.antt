@@ -19,26 +19,38 @@ write-sections-requires c κs = search (needs, rows-rising, some-row)
 write-table-cells-requires : tie.Need-write-table-cells-requires
 write-table-cells-requires c κs = search cells-writable
 
+-- the entry, from where the parts are found
+abbrev entry : tie.After-find-parts → tie.Start
+entry c = search needs
+
 write-text-requires : tie.Need-write-text-requires
-write-text-requires c κs = text-writable _ _ _ _ _ _ _ _ _ _ _ _ (c .before .before .before .before .before .before .before .before .before .before .before .before .before .before .before .before .before .before .before .before .before .before .before .before .before .before .before .before .before .before .before .pre)
+write-text-requires c κs = let found : tie.After-find-parts = search needs in text-writable _ _ _ _ _ _ _ _ _ _ _ _ (entry found .pre)
 
 same-length : tie.Need-same-length
-same-length c = c .before .before .before .before .before .before .before .before .before .before .before .before .before .before .before .before .before .write-columns .kept .1 .1 .1 .1 .1 .0
+same-length c = search needs
 
 same-length-2 : tie.Need-same-length-2
-same-length-2 c = c .before .before .before .before .before .before .before .before .before .before .before .before .before .write-sections .kept .1 .1 .0
+same-length-2 c = search needs
 
 same-length-3 : tie.Need-same-length-3
-same-length-3 c = c .before .before .before .before .before .before .before .before .before .write-table-cells .kept .1 .1 .1 .1 .1 .0
+same-length-3 c = search needs
 
 same-length-4 : tie.Need-same-length-4
-same-length-4 c = c .before .before .before .before .write-text .kept .1 .1 .1 .1 .1 .1 .1 .1 .0
+same-length-4 c = search needs
 
 same-length-5 : tie.Need-same-length-5
-same-length-5 c = c .before .before .before .before .write-text .kept .1 .1 .1 .1 .1 .1 .1 .1 .1 .0
+same-length-5 c = search needs
 
 returns : tie.Need-returns
-returns c = all-written _ _ _ _ _ _ _ _ _ _ _ _ (c .before .before .before .before .before .before .before .before .before .before .before .before .before .before .before .before .before .before .before .before .before .before .before .before .before .before .before .before .before .before .before .before .before .before .before .before .pre) _ (c .before .before .before .before .before .before .before .before .before .before .before .before .before .before .before .before .before .before .before .before .find-parts .ensures) (c .before .before .before .before .before .before .before .before .before .before .before .before .before .before .before .before .before .before .before .trimmed-line .ensures) (c .before .before .before .before .before .before .before .before .before .before .before .before .before .before .before .before .before .write-columns .ensures) (c .before .before .before .before .before .before .before .before .before .before .before .before .before .write-sections .ensures) (c .before .before .before .before .before .before .before .before .before .write-table-cells .ensures) (c .before .before .before .before .write-text .ensures)
+returns c =
+    let texts : tie.After-write-text = search needs in
+    let cells : tie.After-write-table-cells = search needs in
+    let sections : tie.After-write-sections = search needs in
+    let columns : tie.After-write-columns = search needs in
+    let line : tie.After-trimmed-line = search needs in
+    let found : tie.After-find-parts = search needs in
+    all-written _ _ _ _ _ _ _ _ _ _ _ _ (entry found .pre) _ (found .find-parts .ensures) (line .trimmed-line .ensures)
+    (columns .write-columns .ensures) (sections .write-sections .ensures) (cells .write-table-cells .ensures) (texts .write-text .ensures)
 
 pub write-table-spec : {M : Type 1} → statement M
 write-table-spec =

@@ -59,7 +59,7 @@ cast-write-lines-3 c = fits-8-64 (c .shared-slice-known11 .given _)
 
 write-lines-requires : tie.Need-write-lines-requires Inv-loop μ-loop
 write-lines-requires c κs =
-    let turn = c .before .before .before .before .before .before in
+    let turn : tie.In-loop Inv-loop μ-loop = search needs in
     (search needs, (search (cell-cuttable, turn .before .loop .inv .1, turn .loop-test .taken), (search cell-line-room, search (cell-byte-room, turn .before .loop .inv .1, turn .loop-test .taken))))
 
 add-line : tie.Need-add-line Inv-loop μ-loop

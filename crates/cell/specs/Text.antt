@@ -14,6 +14,7 @@ use Rattle.grid.specs.LayoutCall.{slotSpace}
 use Rattle.representation.specs.Arrays.{codeAt, rectsOf}
 use Rattle.representation.specs.Sheet.{Sheet}
 use Rattle.representation.specs.LayoutEntries.{Inside}
+use Rattle.reading.specs.Call.{SheetArrays}
 use Rattle.fragments.specs.declared.part.Piece.{Piece}
 use Rattle.cell.specs.declared.pieces.TextSize.{TextSize}
 
@@ -27,6 +28,10 @@ pub record Source : Type 0 where
 
 abbrev pub source : List ℕ → List ℕ → List ℕ → List ℕ → List ℕ → Source
 source lengths columns text starts offsets = record { lengths = lengths; columns = columns; text = text; starts = starts; offsets = offsets }
+
+-- that of a drawing that was read
+abbrev pub sourceIn : SheetArrays → List ℕ → Source
+sourceIn a starts = source (a .lengths) (a .columns) (a .text) starts (a .offsets)
 
 -- what lies between two columns of line y, cut
 abbrev pub fragmentBetween : Source → ℕ → ℕ → ℕ → Fragment

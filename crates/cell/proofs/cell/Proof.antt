@@ -1,7 +1,7 @@
 -- `cell::cell` meets its contract: 13, a refusal of reading, or the cell finished.
 use borrow.Author.Needs.{needs}
 use denote.Ref.{now}
-use Rattle.cell.proofs.CallLaws.{cutting, cell-no-starts, cell-refused, cell-finished}
+use Rattle.cell.proofs.CallLaws.{traced-cutting, cell-no-starts, cell-refused, cell-finished}
 use Rattle.cell.proofs.cell.Statement.{statement}
 use Rattle.cell.proofs.cell.Tie as tie
 
@@ -34,14 +34,14 @@ returns-2 : tie.Need-returns-2
 returns-2 c =
     let read : tie.After-read = search needs in
     let roomy : tie.Else1 = search needs in
-    cell-refused _ (now (entry roomy .args .starts)) (roomy .if1 .left) _ _ _ _ _ _ _ _ _ _ _ (read .read .ensures) (c .if2 .taken)
+    cell-refused _ (now (entry roomy .args .starts)) (roomy .if1 .left) _ _ _ _ _ _ (read .read .ensures) (c .if2 .taken)
 
 finish-cell-requires : tie.Need-finish-cell-requires
 finish-cell-requires c κs =
     let passed : tie.Else2 = search needs in
     let read : tie.After-read = search needs in
     let roomy : tie.Else1 = search needs in
-    cutting _ _ _ _ _ _ _ (read .read .ensures .traced (passed .if2 .left)) (now (entry roomy .args .starts)) (roomy .if1 .left)
+    traced-cutting _ _ (read .read .ensures .traced (passed .if2 .left)) (now (entry roomy .args .starts)) (roomy .if1 .left)
 
 same-length-6 : tie.Need-same-length-6
 same-length-6 c = search needs
@@ -70,7 +70,7 @@ returns-3 c =
     let passed : tie.Else2 = search needs in
     let read : tie.After-read = search needs in
     let roomy : tie.Else1 = search needs in
-    cell-finished _ (now (entry roomy .args .starts)) (roomy .if1 .left) _ _ _ _ _ _ _ _ _ _ _ (read .read .ensures) (passed .if2 .left) _ _
+    cell-finished _ (now (entry roomy .args .starts)) (roomy .if1 .left) _ _ _ _ _ _ (read .read .ensures) (passed .if2 .left) _ _
     (done .finish-cell .ensures)
 
 pub cell-spec : {M : Type 1} → statement M

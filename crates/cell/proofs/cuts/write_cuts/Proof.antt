@@ -11,7 +11,7 @@ use Rattle.cell.proofs.cuts.write_cuts.Tie as tie
 
 abbrev Inv-loop : tie.InvT-loop
 Inv-loop lengths columns text starts offsets top left bottom right out₀ y₀ i₀ out y i =
-    (top < y) × (y ≤ bottom) × (i ≡ 4 * (y - top - 1)) × CutsWritten (source lengths columns text starts offsets) top left bottom right out₀ y out
+    (top < y) × (y ≤ bottom) × (i ≡ 4 * (y - top - 1)) × CutsWritten (source lengths columns text starts offsets) top (left .0) bottom (right .0) out₀ y out
 
 abbrev μ-loop : tie.MeasureT-loop
 μ-loop lengths columns text starts offsets top left bottom right out₀ y₀ i₀ out y i = bottom - y

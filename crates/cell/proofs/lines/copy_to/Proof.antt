@@ -11,7 +11,7 @@ use Rattle.cell.proofs.lines.copy_to.Tie as tie
 
 abbrev Inv-loop : tie.InvT-loop
 Inv-loop from at out₀ i₀ out i =
-    (i ≤ length from) × (length out ≡ length out₀) × (out ≡ paste out₀ at from i)
+    (i ≤ length from) × (length out ≡ length out₀) × (out ≡ paste out₀ (at .0) from i)
 
 abbrev μ-loop : tie.MeasureT-loop
 μ-loop from at out₀ i₀ out i = length from - i

@@ -1,18 +1,20 @@
 -- `cell::lines::write_lines` meets its contract. The invariant: the first i lines are written, up to byte `end`.
-use Prim.Native.Nat.{_-_, _≤_}
+use Prim.Native.Nat.{_*_, _-_, _^_, _≤_, _<_}
 use native.Mathlib.Omega.{arith}
+use lib.ListN.{length}
 use borrow.Author.Needs.{needs}
+use denote.Ref.{now}
 use Rattle.cell.specs.Text.{source}
 use Rattle.cell.proofs.lines.WriteLaws.{line-cuttable, first-line-fits, line-fits, length-fits, LinesWritten, no-line, line-room, end-fits, line-next, lines-end, lengths-done, lines-done}
 use Rattle.cell.proofs.lines.write_lines.Statement.{statement}
 use Rattle.cell.proofs.lines.write_lines.Tie as tie
 
 abbrev Inv-loop : tie.InvT-loop
-Inv-loop lengths columns text starts offsets top left right count at byte out-lengths₀ out-text₀ end₀ i₀ out-lengths out-text end i =
-    (i ≤ count) × LinesWritten (source lengths columns text starts offsets) top left right count at byte out-lengths₀ out-text₀ i end out-lengths out-text
+Inv-loop lengths columns text starts offsets top left right count at out-lengths₀ out-text₀ end₀ i₀ out-lengths out-text end i =
+    (i ≤ count) × LinesWritten (source lengths columns text starts offsets) top (left .0) (right .0) count at end₀ out-lengths₀ out-text₀ i end out-lengths out-text
 
 abbrev μ-loop : tie.MeasureT-loop
-μ-loop lengths columns text starts offsets top left right count at byte out-lengths₀ out-text₀ end₀ i₀ out-lengths out-text end i = count - i
+μ-loop lengths columns text starts offsets top left right count at out-lengths₀ out-text₀ end₀ i₀ out-lengths out-text end i = count - i
 
 loop-holds : tie.Need-loop-holds Inv-loop μ-loop
 loop-holds c = search (needs, no-line)
@@ -41,8 +43,14 @@ slice-write-out-lengths c = omega arith
 copy-to-requires : tie.Need-copy-to-requires Inv-loop μ-loop
 copy-to-requires c κs = search line-room
 
+-- no text is so long that its end would not fit
+text-small : (start : tie.Start Inv-loop μ-loop) → length (now (start .args .out-text)) * 1 < 2 ^ 63
+text-small start = search needs
+
 add-end : tie.Need-add-end Inv-loop μ-loop
-add-end c = search (needs, end-fits)
+add-end c =
+    let start : tie.Start Inv-loop μ-loop = search needs in
+    search (end-fits, text-small start)
 
 add-i : tie.Need-add-i Inv-loop μ-loop
 add-i c = omega arith

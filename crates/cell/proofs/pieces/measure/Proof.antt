@@ -17,50 +17,50 @@ abbrev μ-loop : tie.MeasureT-loop
 loop-holds : tie.Need-loop-holds Inv-loop μ-loop
 loop-holds c = search (needs, none-totalled)
 
-mul-measure-cell : tie.Need-mul-measure-cell Inv-loop μ-loop
-mul-measure-cell c = omega arith
+mul-top : tie.Need-mul-top Inv-loop μ-loop
+mul-top c = omega arith
 
-shared-slice-read-measure-cell : tie.Need-shared-slice-read-measure-cell Inv-loop μ-loop
-shared-slice-read-measure-cell c = omega arith
+shared-slice-read-top : tie.Need-shared-slice-read-top Inv-loop μ-loop
+shared-slice-read-top c = omega arith
 
-cast-measure-cell : tie.Need-cast-measure-cell Inv-loop μ-loop
-cast-measure-cell c = fits-8-64 (c .shared-slice-known7 .given _)
+cast-top : tie.Need-cast-top Inv-loop μ-loop
+cast-top c = fits-8-64 (c .shared-slice-known7 .given _)
 
-mul-measure-cell-2 : tie.Need-mul-measure-cell-2 Inv-loop μ-loop
-mul-measure-cell-2 c = omega arith
+mul-left : tie.Need-mul-left Inv-loop μ-loop
+mul-left c = omega arith
 
-add-measure-cell : tie.Need-add-measure-cell Inv-loop μ-loop
-add-measure-cell c = omega arith
+add-left : tie.Need-add-left Inv-loop μ-loop
+add-left c = omega arith
 
-shared-slice-read-measure-cell-2 : tie.Need-shared-slice-read-measure-cell-2 Inv-loop μ-loop
-shared-slice-read-measure-cell-2 c = omega arith
+shared-slice-read-left : tie.Need-shared-slice-read-left Inv-loop μ-loop
+shared-slice-read-left c = omega arith
 
-cast-measure-cell-2 : tie.Need-cast-measure-cell-2 Inv-loop μ-loop
-cast-measure-cell-2 c = fits-8-64 (c .shared-slice-known8 .given _)
+cast-left : tie.Need-cast-left Inv-loop μ-loop
+cast-left c = fits-8-64 (c .shared-slice-known8 .given _)
 
-mul-measure-cell-3 : tie.Need-mul-measure-cell-3 Inv-loop μ-loop
-mul-measure-cell-3 c = omega arith
+mul-bottom : tie.Need-mul-bottom Inv-loop μ-loop
+mul-bottom c = omega arith
 
-add-measure-cell-2 : tie.Need-add-measure-cell-2 Inv-loop μ-loop
-add-measure-cell-2 c = omega arith
+add-bottom : tie.Need-add-bottom Inv-loop μ-loop
+add-bottom c = omega arith
 
-shared-slice-read-measure-cell-3 : tie.Need-shared-slice-read-measure-cell-3 Inv-loop μ-loop
-shared-slice-read-measure-cell-3 c = omega arith
+shared-slice-read-bottom : tie.Need-shared-slice-read-bottom Inv-loop μ-loop
+shared-slice-read-bottom c = omega arith
 
-cast-measure-cell-3 : tie.Need-cast-measure-cell-3 Inv-loop μ-loop
-cast-measure-cell-3 c = fits-8-64 (c .shared-slice-known9 .given _)
+cast-bottom : tie.Need-cast-bottom Inv-loop μ-loop
+cast-bottom c = fits-8-64 (c .shared-slice-known9 .given _)
 
-mul-measure-cell-4 : tie.Need-mul-measure-cell-4 Inv-loop μ-loop
-mul-measure-cell-4 c = omega arith
+mul-right : tie.Need-mul-right Inv-loop μ-loop
+mul-right c = omega arith
 
-add-measure-cell-3 : tie.Need-add-measure-cell-3 Inv-loop μ-loop
-add-measure-cell-3 c = omega arith
+add-right : tie.Need-add-right Inv-loop μ-loop
+add-right c = omega arith
 
-shared-slice-read-measure-cell-4 : tie.Need-shared-slice-read-measure-cell-4 Inv-loop μ-loop
-shared-slice-read-measure-cell-4 c = omega arith
+shared-slice-read-right : tie.Need-shared-slice-read-right Inv-loop μ-loop
+shared-slice-read-right c = omega arith
 
-cast-measure-cell-4 : tie.Need-cast-measure-cell-4 Inv-loop μ-loop
-cast-measure-cell-4 c = fits-8-64 (c .shared-slice-known10 .given _)
+cast-right : tie.Need-cast-right Inv-loop μ-loop
+cast-right c = fits-8-64 (c .shared-slice-known10 .given _)
 
 measure-cell-requires : tie.Need-measure-cell-requires Inv-loop μ-loop
 measure-cell-requires c κs =
@@ -101,21 +101,21 @@ measure-spec =
     Inv-loop
     μ-loop
     loop-holds
-    mul-measure-cell
-    shared-slice-read-measure-cell
-    cast-measure-cell
-    mul-measure-cell-2
-    add-measure-cell
-    shared-slice-read-measure-cell-2
-    cast-measure-cell-2
-    mul-measure-cell-3
-    add-measure-cell-2
-    shared-slice-read-measure-cell-3
-    cast-measure-cell-3
-    mul-measure-cell-4
-    add-measure-cell-3
-    shared-slice-read-measure-cell-4
-    cast-measure-cell-4
+    mul-top
+    shared-slice-read-top
+    cast-top
+    mul-left
+    add-left
+    shared-slice-read-left
+    cast-left
+    mul-bottom
+    add-bottom
+    shared-slice-read-bottom
+    cast-bottom
+    mul-right
+    add-right
+    shared-slice-read-right
+    cast-right
     measure-cell-requires
     cast-counts
     slice-write-counts

@@ -9,7 +9,7 @@ use Rattle.cell.proofs.pieces.measure_cell.Tie as tie
 
 abbrev Inv-loop : tie.InvT-loop
 Inv-loop lengths columns text starts offsets top left bottom right lines₀ bytes₀ y₀ lines bytes y =
-    (top < y) × (y ≤ bottom) × Measuring lengths columns text starts offsets top left bottom right lines bytes y
+    (top < y) × (y ≤ bottom) × Measuring lengths columns text starts offsets top (left .0) bottom (right .0) lines bytes y
 
 abbrev μ-loop : tie.MeasureT-loop
 μ-loop lengths columns text starts offsets top left bottom right lines₀ bytes₀ y₀ lines bytes y = bottom - y

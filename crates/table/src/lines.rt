@@ -1,5 +1,7 @@
 // Writes the lines of all cells: their lengths, and their text back to back.
 use cell::lines::write_lines;
+use text::ByteAt;
+use text::Column;
 ghost use Prim.Native.Nat.{_*_, _≤_};
 ghost use mathlib.Core.Path.{_≡_};
 ghost use mathlib.Core.List.{map, List·Memᴰ};
@@ -42,19 +44,22 @@ pub fn write_text(
         × (now («out_text» .exit) ≡ over (joinText (allLines sheet rs)) (now («out_text» .entry))) ⌝ }
 {
     let mut line = 0;
-    let mut byte = 0;
+    let mut byte = ByteAt(0);
     let mut k = 0;
     while k < n {
         let count = counts[k] as usize;
+        let top = rects[4 * k] as usize;
+        let left = rects[4 * k + 1] as usize;
+        let right = rects[4 * k + 3] as usize;
         byte = write_lines(
             lengths,
             columns,
             text,
             starts,
             offsets,
-            rects[4 * k] as usize,
-            rects[4 * k + 1] as usize,
-            rects[4 * k + 3] as usize,
+            top,
+            Column(left),
+            Column(right),
             count,
             line,
             byte,

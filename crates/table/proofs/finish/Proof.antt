@@ -1,46 +1,52 @@
 -- `table::finish` meets its contract: what reading left gives each callee what it asks.
 use mathlib.Core.Path.{sym, _∙_}
-use mathlib.Core.List.{[]}
 use borrow.Author.Needs.{needs}
 use denote.Ref.{now}
-use Rattle.reading.proofs.SheetLaws.{entries-small, cells-room}
-use Rattle.layout.proofs.FoundLaws.{down-some, across-some}
+use Rattle.reading.proofs.SheetLaws.{traced-edges, traced-room}
+use Rattle.layout.proofs.FoundLaws.{tops-found-some, lefts-found-some}
 use Rattle.table.specs.Call.{arrays}
-use Rattle.table.proofs.FinishLaws.{preparable, small, refused, writable, finished}
+use Rattle.table.proofs.FinishLaws.{traced-preparable, finish-small, finish-short, finish-writable, finish-written}
 use Rattle.table.proofs.finish.Statement.{statement}
 use Rattle.table.proofs.finish.Tie as tie
-
-row-bounds-requires : tie.Need-row-bounds-requires
-row-bounds-requires c κs = search (needs, entries-small, cells-room)
-
-col-bounds-requires : tie.Need-col-bounds-requires
-col-bounds-requires c κs = search (needs, entries-small, cells-room)
-
-prepare-requires : tie.Need-prepare-requires
-prepare-requires c κs = search preparable
 
 -- the entry, from where the row lines are found
 abbrev entry : tie.After-row-bounds → tie.Start
 entry c = search needs
 
+row-bounds-requires : tie.Need-row-bounds-requires
+row-bounds-requires c κs =
+    let start : tie.Start = search needs in
+    let traced = start .pre .0 in
+    ((traced .through .few, traced-room _ _ traced, traced .sheet .fewLines), traced-edges _ _ traced)
+
+col-bounds-requires : tie.Need-col-bounds-requires
+col-bounds-requires c κs =
+    let rows : tie.After-row-bounds = search needs in
+    let traced = entry rows .pre .0 in
+    ((traced .through .few, traced-room _ _ traced, traced .roomy .widthFits), traced-edges _ _ traced)
+
+prepare-requires : tie.Need-prepare-requires
+prepare-requires c κs =
+    let rows : tie.After-row-bounds = search needs in
+    traced-preparable _ _ (entry rows .pre .0) _ _ (entry rows .pre .1)
+
 sub-down : tie.Need-sub-down
 sub-down c =
     let columns : tie.After-col-bounds = search needs in
     let rows : tie.After-row-bounds = search needs in
-    down-some _ _ _ _ _ _ _ (entry rows .pre .0) _ _ (rows .row-bounds .ensures) (columns .col-bounds .ensures)
+    tops-found-some (entry rows .pre .0) (rows .row-bounds .ensures) (columns .col-bounds .ensures)
 
 sub-across : tie.Need-sub-across
 sub-across c =
     let columns : tie.After-col-bounds = search needs in
     let rows : tie.After-row-bounds = search needs in
-    across-some _ _ _ _ _ _ _ (entry rows .pre .0) _ _ (rows .row-bounds .ensures) (columns .col-bounds .ensures)
+    lefts-found-some (entry rows .pre .0) (rows .row-bounds .ensures) (columns .col-bounds .ensures)
 
 lacks-room-requires : tie.Need-lacks-room-requires
 lacks-room-requires c κs =
-    let measured : tie.After-prepare = search needs in
     let columns : tie.After-col-bounds = search needs in
     let rows : tie.After-row-bounds = search needs in
-    small _ _ _ _ _ _ _ (entry rows .pre .0) _ _ _ (rows .row-bounds .ensures) (columns .col-bounds .ensures) _ _ (measured .prepare .ensures) (arrays [] [] [] [] [])
+    finish-small (entry rows .pre .0) (rows .row-bounds .ensures) (columns .col-bounds .ensures)
 
 same-length : tie.Need-same-length
 same-length c = search needs
@@ -54,7 +60,7 @@ returns c =
     let measured : tie.After-prepare = search needs in
     let columns : tie.After-col-bounds = search needs in
     let rows : tie.After-row-bounds = search needs in
-    refused _ _ _ _ _ _ _ (entry rows .pre .0) _ _ _ (rows .row-bounds .ensures) (columns .col-bounds .ensures) _ _ (measured .prepare .ensures) _
+    finish-short (entry rows .pre .0) (rows .row-bounds .ensures) (columns .col-bounds .ensures) (measured .prepare .ensures) _
     (sym (tested .lacks-room .ensures) ∙ c .if1 .taken)
 
 write-table-requires : tie.Need-write-table-requires
@@ -65,7 +71,7 @@ write-table-requires c κs =
     let columns : tie.After-col-bounds = search needs in
     let rows : tie.After-row-bounds = search needs in
     let a = entry rows .args in
-    writable _ _ _ _ _ _ _ (entry rows .pre .0) _ _ _ (rows .row-bounds .ensures) (columns .col-bounds .ensures) _ _ (measured .prepare .ensures)
+    finish-writable (entry rows .pre .0) (rows .row-bounds .ensures) (columns .col-bounds .ensures) (measured .prepare .ensures)
     (arrays (now (a .cols)) (now (a .sections)) (now (a .cells)) (now (a .out-lengths)) (now (a .out-text)))
     (sym (tested .lacks-room .ensures) ∙ roomy .if1 .left)
 
@@ -98,7 +104,7 @@ returns-2 c =
     let measured : tie.After-prepare = search needs in
     let columns : tie.After-col-bounds = search needs in
     let rows : tie.After-row-bounds = search needs in
-    finished _ _ _ _ _ _ _ (entry rows .pre .0) _ _ _ (rows .row-bounds .ensures) (columns .col-bounds .ensures) _ _ (measured .prepare .ensures) _
+    finish-written (entry rows .pre .0) (rows .row-bounds .ensures) (columns .col-bounds .ensures) (measured .prepare .ensures) _
     (sym (tested .lacks-room .ensures) ∙ roomy .if1 .left) _ (written .write-table .ensures)
 
 pub finish-spec : {M : Type 1} → statement M

@@ -54,7 +54,7 @@ abbrev pub allLines : Source → List Rect → List (List ℕ)
 allLines s rs = flatMap (keptLines s) rs
 
 -- a drawing within the limits, and where its lines start
-pub record Ready (s : Source) : Type 0 where
+pub record SourceReady (s : Source) : Type 0 where
   pub sheet : Sheet (s .lengths) (s .columns) (s .text)
   pub fewBytes : length (s .text) ≤ maxBytes
   pub startRoom : length (s .lengths) ≤ length (s .starts)
@@ -104,7 +104,7 @@ pub record Preparable (lengths columns text offsets rects : List ℕ) (n : ℕ) 
 
 -- and what was measured
 pub record Prepared (s : Source) (rs : List Rect) (counts : List ℕ) (size : TextSize) : Type 0 where
-  pub ready : Ready s
+  pub ready : SourceReady s
   pub lines : size .lines ≡ length (allLines s rs)
   pub bytes : size .bytes ≡ length (joinText (allLines s rs))
   pub counted : CountedBy (λ r. length (keptLines s r)) rs counts

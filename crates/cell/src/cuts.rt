@@ -7,7 +7,7 @@ ghost use lib.ListN.{length};
 ghost use Rattle.grid.specs.Answer.{over};
 ghost use Rattle.grid.specs.Values.{Rect};
 ghost use Rattle.grid.specs.TableCall.{cutArray};
-ghost use Rattle.cell.specs.Text.{source, Ready, Framed};
+ghost use Rattle.cell.specs.Text.{source, SourceReady, Framed};
 ghost use Rattle.cell.specs.Cuts.{cutsOf};
 
 // For each inner line of a cell its index, where its cut starts and ends in it, and its column.
@@ -23,7 +23,7 @@ pub fn write_cuts(
     right: Column,
     out: &mut [u16],
 )
-    requires { ⌜ Ready (source (now lengths) (now columns) (now text) (now starts) (now offsets)) ⌝ }
+    requires { ⌜ SourceReady (source (now lengths) (now columns) (now text) (now starts) (now offsets)) ⌝ }
     requires { let sheet = source (now lengths) (now columns) (now text) (now starts) (now offsets) in
         let rect : Rect = record { top = top; left = left .0; bottom = bottom; right = right .0 } in
         ⌜ Framed sheet rect ⌝ }

@@ -8,7 +8,7 @@ ghost use mathlib.Core.List.{_++_, map};
 ghost use lib.ListN.{length, take, drop};
 ghost use Rattle.seq.specs.Lists.{range};
 ghost use Rattle.grid.specs.Flat.{joinText};
-ghost use Rattle.cell.specs.Text.{source, cutBetween, Ready, Cuttable};
+ghost use Rattle.cell.specs.Text.{source, cutBetween, SourceReady, Cuttable};
 
 // A text copied into another, from byte `at` on.
 fn copy_to(from: &[u8], at: ByteAt, out: &mut [u8])
@@ -41,7 +41,7 @@ pub fn write_lines(
     out_lengths: &mut [u16],
     out_text: &mut [u8],
 ) -> ByteAt
-    requires { ⌜ Ready (source (now lengths) (now columns) (now text) (now starts) (now offsets)) ⌝ }
+    requires { ⌜ SourceReady (source (now lengths) (now columns) (now text) (now starts) (now offsets)) ⌝ }
     requires { let sheet = source (now lengths) (now columns) (now text) (now starts) (now offsets) in
         ⌜ ((y : ℕ) → top < y → y ≤ top + count → Cuttable sheet (left .0) (right .0) y) ⌝ }
     requires { let sheet = source (now lengths) (now columns) (now text) (now starts) (now offsets) in

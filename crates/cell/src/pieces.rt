@@ -12,7 +12,7 @@ ghost use Rattle.seq.specs.Lists.{sum};
 ghost use Rattle.grid.specs.Values.{Rect};
 ghost use Rattle.grid.specs.Flat.{joinText};
 ghost use Rattle.representation.specs.Arrays.{rectsOf};
-ghost use Rattle.cell.specs.Text.{source, cutBetween, keptLines, allLines, Ready, Cuttable, PieceOf, Framed, CountedBy, Preparable, Prepared};
+ghost use Rattle.cell.specs.Text.{source, cutBetween, keptLines, allLines, SourceReady, Cuttable, PieceOf, Framed, CountedBy, Preparable, Prepared};
 
 // How many lines, and their bytes.
 pub struct TextSize {
@@ -46,7 +46,7 @@ pub fn piece_at(
     right: Column,
     y: usize,
 ) -> Piece
-    requires { ⌜ Ready (source (now lengths) (now columns) (now text) (now starts) (now offsets)) ⌝ }
+    requires { ⌜ SourceReady (source (now lengths) (now columns) (now text) (now starts) (now offsets)) ⌝ }
     requires { ⌜ Cuttable (source (now lengths) (now columns) (now text) (now starts) (now offsets)) (left .0) (right .0) y ⌝ }
     ensures { λ r.
         let sheet = source (now (lengths .entry)) (now (columns .entry)) (now (text .entry)) (now (starts .entry)) (now (offsets .entry)) in
@@ -73,7 +73,7 @@ pub fn cut_line<'a>(
     right: Column,
     y: usize,
 ) -> &'a [u8]
-    requires { ⌜ Ready (source (now lengths) (now columns) (now text) (now starts) (now offsets)) ⌝ }
+    requires { ⌜ SourceReady (source (now lengths) (now columns) (now text) (now starts) (now offsets)) ⌝ }
     requires { ⌜ Cuttable (source (now lengths) (now columns) (now text) (now starts) (now offsets)) (left .0) (right .0) y ⌝ }
     ensures { λ r.
         let sheet = source (now (lengths .entry)) (now (columns .entry)) (now (text .entry)) (now (starts .entry)) (now (offsets .entry)) in
@@ -100,7 +100,7 @@ pub fn measure_cell(
     bottom: usize,
     right: Column,
 ) -> TextSize
-    requires { ⌜ Ready (source (now lengths) (now columns) (now text) (now starts) (now offsets)) ⌝ }
+    requires { ⌜ SourceReady (source (now lengths) (now columns) (now text) (now starts) (now offsets)) ⌝ }
     requires { let sheet = source (now lengths) (now columns) (now text) (now starts) (now offsets) in
         let rect : Rect = record { top = top; left = left .0; bottom = bottom; right = right .0 } in
         ⌜ Framed sheet rect ⌝ }
@@ -135,7 +135,7 @@ pub fn measure(
     n: usize,
     counts: &mut [u8],
 ) -> TextSize
-    requires { ⌜ Ready (source (now lengths) (now columns) (now text) (now starts) (now offsets)) ⌝ }
+    requires { ⌜ SourceReady (source (now lengths) (now columns) (now text) (now starts) (now offsets)) ⌝ }
     requires { ⌜ (n ≤ 1024) × (4 * n ≤ length (now rects)) × (n ≤ length (now counts)) ⌝ }
     requires { let sheet = source (now lengths) (now columns) (now text) (now starts) (now offsets) in
         let rs = rectsOf n (now rects) in

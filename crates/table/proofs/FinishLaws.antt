@@ -20,10 +20,10 @@ use Rattle.representation.specs.Edges.{Collected, rowLinesBelow, columnLinesBel
 use Rattle.representation.specs.LayoutEntries.{linesHeld, Rising, Numbered, columnEntries}
 use Rattle.representation.specs.declared.Bounds.{Bounds}
 use Rattle.representation.specs.declared.Parts.{Parts}
-use Rattle.cell.specs.Text.{Source, sourceIn, keptLines, allLines, Ready, Framed, CountedBy, Preparable, Prepared}
+use Rattle.cell.specs.Text.{Source, sourceIn, keptLines, allLines, SourceReady, Framed, CountedBy, Preparable, Prepared}
 use Rattle.cell.specs.declared.pieces.TextSize.{TextSize}
 use Rattle.representation.specs.TableEntries.{sectionEntries, tableEntries}
-use Rattle.table.specs.Room.{tooShort}
+use Rattle.table.specs.Room.{tableTooShort}
 use Rattle.reading.specs.Call.{SheetArrays, linesIn, rectsIn, TracedSheet}
 use Rattle.reading.specs.declared.Outcome.{Outcome}
 use Rattle.reading.proofs.CheckedLaws.{trimmed-text}
@@ -37,7 +37,7 @@ use Rattle.table.proofs.TableLaws.{tableSizes-told, tableShort-told, ta
 -- the tests of 12
 abbrev short : TableArrays → ℕ → ℕ → ℕ → ℕ → ℕ → Bool
 short out across down n lines bytes =
-    tooShort (length (out .columns)) (length (out .sections)) (length (out .cells)) (length (out .lengths)) (length (out .text)) across down n lines bytes
+    tableTooShort (length (out .columns)) (length (out .sections)) (length (out .cells)) (length (out .lengths)) (length (out .text)) across down n lines bytes
 
 -- what measuring asks
 pub traced-preparable : (a : SheetArrays) (o : Outcome) → TracedSheet a o → (starts counts : List ℕ) → (maxLines ≤ length starts) × (maxCells ≤ length counts)
@@ -149,7 +149,7 @@ module _ {a : SheetArrays} {o : Outcome} {starts counts : List ℕ} {tops lefts 
     ((w .rowsFound .indexRoom, w .columnsFound .indexRoom), rects-found-numbered (w .traced) (w .rowsFound) (w .columnsFound)),
   )
 
-  pub writable-text : Ready drawn × (((o .cells ≤ 1024) × (4 * o .cells ≤ length (a .rects)) × CountedBy (λ r. length (keptLines drawn r)) held counts)
+  pub writable-text : SourceReady drawn × (((o .cells ≤ 1024) × (4 * o .cells ≤ length (a .rects)) × CountedBy (λ r. length (keptLines drawn r)) held counts)
       × (((r : Rect) → List·Memᴰ r held → Framed drawn r) × ((length (allLines drawn held) ≤ length (out .lengths)) × (length (joinText (allLines drawn held)) ≤ length (out .text)))))
   writable-text = (w .ready, ((w .traced .through .few, traced-room a o (w .traced), w .counted), (traced-framed a o (w .traced) starts, (w .lengthRoom, w .textRoom))))
 

@@ -5,14 +5,14 @@ use lib.ListN.{length}
 use Rattle.grid.specs.Flat.{TableArrays, joinText}
 use Rattle.representation.specs.Edges.{Collected, rowLinesBelow, columnLinesBelow}
 use Rattle.representation.specs.declared.Bounds.{Bounds}
-use Rattle.cell.specs.Text.{sourceIn, keptLines, allLines, Ready, CountedBy}
+use Rattle.cell.specs.Text.{sourceIn, keptLines, allLines, SourceReady, CountedBy}
 use Rattle.reading.specs.Call.{SheetArrays, rectsIn, TracedSheet}
 use Rattle.reading.specs.declared.Outcome.{Outcome}
 
 -- the lines found, the numbers counted, and room in every array
 pub record Writable (a : SheetArrays) (o : Outcome) (starts counts : List ℕ) (tops lefts : Bounds) (out : TableArrays) : Type 0 where
   pub traced : TracedSheet a o
-  pub ready : Ready (sourceIn a starts)
+  pub ready : SourceReady (sourceIn a starts)
   pub counted : CountedBy (λ r. length (keptLines (sourceIn a starts) r)) (rectsIn a (o .cells)) counts
   pub rowsFound : Collected (rowLinesBelow (length (a .lengths)) (rectsIn a (o .cells))) (length (a .lengths)) tops
   pub columnsFound : Collected (columnLinesBelow (o .width .0) (rectsIn a (o .cells))) (o .width .0) lefts

@@ -10,7 +10,7 @@ ghost use Rattle.grid.specs.Answer.{over};
 ghost use Rattle.grid.specs.Values.{Rect};
 ghost use Rattle.grid.specs.Flat.{joinText};
 ghost use Rattle.representation.specs.Arrays.{rectsOf};
-ghost use Rattle.cell.specs.Text.{source, keptLines, allLines, Ready, Framed, CountedBy};
+ghost use Rattle.cell.specs.Text.{source, keptLines, allLines, SourceReady, Framed, CountedBy};
 
 // The lines of all cells: their lengths, and their text back to back.
 pub fn write_text(
@@ -25,7 +25,7 @@ pub fn write_text(
     out_lengths: &mut [u16],
     out_text: &mut [u8],
 )
-    requires { ⌜ Ready (source (now lengths) (now columns) (now text) (now starts) (now offsets)) ⌝ }
+    requires { ⌜ SourceReady (source (now lengths) (now columns) (now text) (now starts) (now offsets)) ⌝ }
     requires { let sheet = source (now lengths) (now columns) (now text) (now starts) (now offsets) in
         let rs = rectsOf n (now rects) in
         ⌜ (n ≤ 1024) × (4 * n ≤ length (now rects))

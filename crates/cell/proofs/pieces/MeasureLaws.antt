@@ -16,7 +16,7 @@ use Rattle.grid.specs.Values.{noLine}
 use Rattle.representation.specs.Arrays.{codeAt}
 use Rattle.grid.proofs.CellLaws.{dropped-bytes}
 use Rattle.grid.proofs.CutLaws.{cut-shorter}
-use Rattle.cell.specs.Text.{source, cutBetween, keptLines, Ready, Cuttable, Framed}
+use Rattle.cell.specs.Text.{source, cutBetween, keptLines, SourceReady, Cuttable, Framed}
 
 -- ---- empty last lines
 kept-empty : (l : List (List ℕ)) → dropEmptyLast (l ++ [] ∷ []) ≡ dropEmptyLast l
@@ -55,26 +55,26 @@ module _ (lengths columns text starts offsets : List ℕ) (top left bottom right
     pub fewLines : lines ≤ y - top - 1
     pub fewBytes : bytes ≤ 512 * (y - top - 1)
 
-  pub all-measured : (lines bytes y : ℕ) → Measuring lines bytes y → Framed (source lengths columns text starts offsets) (record { top = top; left = left; bottom = bottom; right = right }) → y ≤ bottom → bottom ≤ y
+  pub measuring-all : (lines bytes y : ℕ) → Measuring lines bytes y → Framed (source lengths columns text starts offsets) (record { top = top; left = left; bottom = bottom; right = right }) → y ≤ bottom → bottom ≤ y
       → ((lines ≡ length (keptLines (source lengths columns text starts offsets) (record { top = top; left = left; bottom = bottom; right = right }))) × (lines < 128))
       × ((bytes ≡ sum (map length (keptLines (source lengths columns text starts offsets) (record { top = top; left = left; bottom = bottom; right = right })))) × (bytes ≤ 65536))
-  all-measured lines bytes y m framed below past =
+  measuring-all lines bytes y m framed below past =
       let done : y ≡ bottom = omega arith in (
         (rw done at (m .counted), omega (arith, m .fewLines, framed .inside .tall)),
         (rw done at (m .summed) ∙ sym (dropped-bytes (above bottom)), omega (arith, m .fewBytes, framed .inside .tall)),
       )
 
-  pub none-measured : Measuring 0 0 (top + 1)
+  pub measuring-none : Measuring 0 0 (top + 1)
   unfolding dropEmptyLast sum range
-  none-measured =
+  measuring-none =
       let none : top + 1 - top - 1 ≡ 0 = omega arith in
       record { counted = rw none; summed = rw none; fewLines = omega arith; fewBytes = omega arith }
 
   module _ (framed : Framed (source lengths columns text starts offsets) (record { top = top; left = left; bottom = bottom; right = right })) where
-    pub line-cuttable : (y : ℕ) → top < y → y < bottom → Cuttable (source lengths columns text starts offsets) left right y
-    line-cuttable = framed .borders
+    pub framed-cuttable : (y : ℕ) → top < y → y < bottom → Cuttable (source lengths columns text starts offsets) left right y
+    framed-cuttable = framed .borders
 
-    module _ (ready : Ready (source lengths columns text starts offsets)) (y : ℕ) (low : top < y) (high : y < bottom) (t : List ℕ)
+    module _ (ready : SourceReady (source lengths columns text starts offsets)) (y : ℕ) (low : top < y) (high : y < bottom) (t : List ℕ)
         (told : t ≡ cutBetween (source lengths columns text starts offsets) left right y) where
       pub short : length t ≤ 512
       short =
@@ -89,14 +89,14 @@ module _ (lengths columns text starts offsets : List ℕ) (top left bottom right
           rw (more, range-step (top + 1) (y - top - 1), map-end (cutBetween (source lengths columns text starts offsets) left right) (range (top + 1) (y - top - 1)) (top + 1 + (y - top - 1)), here, told)
 
       module _ {lines bytes : ℕ} (m : Measuring lines bytes y) where
-        pub bytes-fit : Fits w64 (bytes + length t)
-        bytes-fit = fits-under w64 (bytes + length t) 131072 (omega (arith, m .fewBytes, short, framed .inside .tall)) tt
+        pub measuring-fits : Fits w64 (bytes + length t)
+        measuring-fits = fits-under w64 (bytes + length t) 131072 (omega (arith, m .fewBytes, short, framed .inside .tall)) tt
 
         summed-more : bytes + length t ≡ sum (map length (above (y + 1)))
         summed-more = rw (m .summed, next) (sym (sum-end (above y) t))
 
-        pub empty-measured : length t ≡ 0 → {lines′ : ℕ} → lines′ ≡ lines → Measuring lines′ (bytes + length t) (y + 1)
-        empty-measured none is =
+        pub measuring-empty : length t ≡ 0 → {lines′ : ℕ} → lines′ ≡ lines → Measuring lines′ (bytes + length t) (y + 1)
+        measuring-empty none is =
             record {
               counted = is ∙ m .counted ∙ rw (next, none-left t none) (ap length (sym (kept-empty (above y))));
               summed = summed-more;
@@ -107,8 +107,8 @@ module _ (lengths columns text starts offsets : List ℕ) (top left bottom right
               none-left [] e = refl
               none-left (b ∷ bs) e = absurd (omega arith)
 
-        pub filled-measured : (length t ≡ 0 → ⊥) → {lines′ : ℕ} → lines′ ≡ y - top → Measuring lines′ (bytes + length t) (y + 1)
-        filled-measured some is =
+        pub measuring-filled : (length t ≡ 0 → ⊥) → {lines′ : ℕ} → lines′ ≡ y - top → Measuring lines′ (bytes + length t) (y + 1)
+        measuring-filled some is =
             rw is (record {
               counted = rw (next, kept-filled (above y) t some, length-end (above y) t, length-map (range (top + 1) (y - top - 1)) (cutBetween (source lengths columns text starts offsets) left right), length-range (top + 1) (y - top - 1)) (omega arith);
               summed = summed-more;

@@ -22,10 +22,10 @@ use Rattle.grid.proofs.SlotLaws.{line-at}
 use Rattle.grid.proofs.CutLaws.{drop-take, cut-column, cut-part}
 use Rattle.fragments.specs.Part.{lineOf, Checked, Pieced}
 use Rattle.fragments.specs.declared.part.Piece.{Piece}
-use Rattle.cell.specs.Text.{source, fragmentBetween, cutBetween, Ready, Cuttable, PieceOf}
+use Rattle.cell.specs.Text.{source, fragmentBetween, cutBetween, SourceReady, Cuttable, PieceOf}
 
 -- ---- one line
-module _ (lengths columns text starts offsets : List ℕ) (ready : Ready (source lengths columns text starts offsets)) (left right : Column) (y : ℕ)
+module _ (lengths columns text starts offsets : List ℕ) (ready : SourceReady (source lengths columns text starts offsets)) (left right : Column) (y : ℕ)
     (c : Cuttable (source lengths columns text starts offsets) (left .0) (right .0) y) where
   -- the line's text, as it is taken from the whole
   abbrev part : List ℕ
@@ -34,21 +34,21 @@ module _ (lengths columns text starts offsets : List ℕ) (ready : Ready (source
   begins : getD starts y 0 ≡ sum (take y lengths)
   begins = ready .started y (c .line)
 
-  pub line-inside : getD starts y 0 + getD lengths y 0 ≤ length text
-  line-inside = omega (arith, begins, sum-within lengths y, ready .sheet .bytesAgree)
+  pub cuttable-inside : getD starts y 0 + getD lengths y 0 ≤ length text
+  cuttable-inside = omega (arith, begins, sum-within lengths y, ready .sheet .bytesAgree)
 
-  pub line-fits : Fits w64 (getD starts y 0 + getD lengths y 0)
-  line-fits = fits-under w64 (getD starts y 0 + getD lengths y 0) 32769 (omega (arith, line-inside, ready .fewBytes)) tt
+  pub cuttable-fits : Fits w64 (getD starts y 0 + getD lengths y 0)
+  cuttable-fits = fits-under w64 (getD starts y 0 + getD lengths y 0) 32769 (omega (arith, cuttable-inside, ready .fewBytes)) tt
 
   part-length : length part ≡ getD lengths y 0
   part-length =
-      omega (arith, length-take (getD starts y 0 + getD lengths y 0 - getD starts y 0) (drop (getD starts y 0) text), length-drop (getD starts y 0) text, line-inside)
+      omega (arith, length-take (getD starts y 0 + getD lengths y 0 - getD starts y 0) (drop (getD starts y 0) text), length-drop (getD starts y 0) text, cuttable-inside)
 
-  pub line-low : y < 128
-  line-low = omega (arith, c .line, ready .sheet .fewLines)
+  pub cuttable-low : y < 128
+  cuttable-low = omega (arith, c .line, ready .sheet .fewLines)
 
-  pub start-fits : (border : ByteAt) → border .0 ≡ codeAt offsets y (left .0) → Fits w64 (border .0 + 1)
-  start-fits border from = fits-under w64 (border .0 + 1) 514 (omega (arith, from, c .forward, c .inside, ready .sheet .shortLines y)) tt
+  pub cuttable-start-fits : (border : ByteAt) → border .0 ≡ codeAt offsets y (left .0) → Fits w64 (border .0 + 1)
+  cuttable-start-fits border from = fits-under w64 (border .0 + 1) 514 (omega (arith, from, c .forward, c .inside, ready .sheet .shortLines y)) tt
 
   -- the line as the definition has it
   part-line : lineOf part (record { 0 = getD columns y 0 }) ≡ getD (linesFrom lengths columns text) y noLine
@@ -58,8 +58,8 @@ module _ (lengths columns text starts offsets : List ℕ) (ready : Ready (source
 
   -- where its borders stand
   module _ (border end : ByteAt) (from : border .0 ≡ codeAt offsets y (left .0)) (to : end .0 ≡ codeAt offsets y (right .0)) where
-    pub part-checked : Checked part (record { 0 = getD columns y 0 }) (record { 0 = border .0 + 1 }) end left
-    part-checked =
+    pub cuttable-checked : Checked part (record { 0 = getD columns y 0 }) (record { 0 = border .0 + 1 }) end left
+    cuttable-checked =
         record {
           forward = omega (arith, from, to, c .forward);
           inside = omega (arith, to, c .inside, part-length);
@@ -99,7 +99,7 @@ module _ (lengths columns text starts offsets : List ℕ) (ready : Ready (source
   -- the piece as a part of the whole text
   module _ (p : Piece) (told : PieceOf (source lengths columns text starts offsets) (left .0) (right .0) y p) where
     pub piece-inside : getD starts y 0 + p .end .0 ≤ length text
-    piece-inside = omega (arith, told .inside, line-inside)
+    piece-inside = omega (arith, told .inside, cuttable-inside)
 
     pub piece-end-fits : Fits w64 (getD starts y 0 + p .end .0)
     piece-end-fits = fits-under w64 (getD starts y 0 + p .end .0) 32769 (omega (arith, piece-inside, ready .fewBytes)) tt
@@ -131,27 +131,27 @@ pub record Starting (lengths starts₀ : List ℕ) (starts : List ℕ) (at y : �
   pub place : at ≡ sum (take y lengths)
   pub noted : (i : ℕ) → i < y → getD starts i 0 ≡ sum (take i lengths)
 
-pub none-started : (lengths starts₀ : List ℕ) → (length lengths ≤ length starts₀) × (sum lengths ≤ 32768) → Starting lengths starts₀ starts₀ 0 0
+pub starting-none : (lengths starts₀ : List ℕ) → (length lengths ≤ length starts₀) × (sum lengths ≤ 32768) → Starting lengths starts₀ starts₀ 0 0
 unfolding sum
-none-started lengths starts₀ h = record { kept = refl; room = h .0; small = h .1; place = refl; noted = λ i low. absurd (omega arith) }
+starting-none lengths starts₀ h = record { kept = refl; room = h .0; small = h .1; place = refl; noted = λ i low. absurd (omega arith) }
 
 module _ (lengths starts₀ starts : List ℕ) (at y : ℕ) (s : Starting lengths starts₀ starts at y) where
   module _ (h : y < length lengths) where
-    pub start-room : y < length starts
-    start-room = omega (arith, s .kept, s .room)
+    pub starting-room : y < length starts
+    starting-room = omega (arith, s .kept, s .room)
 
-    pub next-fits : Fits w16 (at + getD lengths y 0)
-    next-fits = fits-under w16 (at + getD lengths y 0) 32769 (omega (arith, s .place, sum-within lengths y, s .small)) tt
+    pub starting-fits : Fits w16 (at + getD lengths y 0)
+    starting-fits = fits-under w16 (at + getD lengths y 0) 32769 (omega (arith, s .place, sum-within lengths y, s .small)) tt
 
-    pub one-started : Starting lengths starts₀ (set starts y at) (at + getD lengths y 0) (y + 1)
-    one-started =
+    pub starting-next : Starting lengths starts₀ (set starts y at) (at + getD lengths y 0) (y + 1)
+    starting-next =
         record {
           kept = length-set starts y at ∙ s .kept;
           room = s .room;
           small = s .small;
           place = rw (s .place) (sym (sum-step lengths y h));
-          noted = λ i low. ⊎-elim (λ (here : i ≡ y). rw here (getD-set-same starts y at 0 start-room ∙ s .place)) (λ (before : i < y). getD-set-other starts y i at 0 (λ e. omega arith) ∙ s .noted i before) (eq-or-lt-of-le (omega arith));
+          noted = λ i low. ⊎-elim (λ (here : i ≡ y). rw here (getD-set-same starts y at 0 starting-room ∙ s .place)) (λ (before : i < y). getD-set-other starts y i at 0 (λ e. omega arith) ∙ s .noted i before) (eq-or-lt-of-le (omega arith));
         }
 
-  pub all-started : length lengths ≤ y → (i : ℕ) → i < length lengths → getD starts i 0 ≡ sum (take i lengths)
-  all-started h i low = s .noted i (omega arith)
+  pub starting-all : length lengths ≤ y → (i : ℕ) → i < length lengths → getD starts i 0 ≡ sum (take i lengths)
+  starting-all h i low = s .noted i (omega arith)

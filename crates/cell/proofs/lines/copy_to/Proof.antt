@@ -5,7 +5,7 @@ use native.Mathlib.Omega.{arith}
 use lib.ListN.{length}
 use lib.Seq.{paste, paste-zero}
 use borrow.Author.Needs.{needs}
-use Rattle.cell.proofs.lines.WriteLaws.{copy-more, copied}
+use Rattle.cell.proofs.lines.WriteLaws.{paste-next, paste-all}
 use Rattle.cell.proofs.lines.copy_to.Statement.{statement}
 use Rattle.cell.proofs.lines.copy_to.Tie as tie
 
@@ -35,13 +35,13 @@ loop-less : tie.Need-loop-less Inv-loop μ-loop
 loop-less c = omega arith
 
 loop-again : tie.Need-loop-again Inv-loop μ-loop
-loop-again c = search (needs, copy-more)
+loop-again c = search (needs, paste-next)
 
 same-length : tie.Need-same-length Inv-loop μ-loop
 same-length c = search needs
 
 returns : tie.Need-returns Inv-loop μ-loop
-returns c = search (needs, copied)
+returns c = search (needs, paste-all)
 
 pub copy-to-spec : {M : Type 1} → statement M
 copy-to-spec =

@@ -3,7 +3,7 @@ use Prim.Native.Nat.{_-_, _≤_}
 use mir.Facts.{fits-8-64}
 use native.Mathlib.Omega.{arith}
 use borrow.Author.Needs.{needs}
-use Rattle.cell.proofs.pieces.TotalLaws.{Totalling, none-totalled, cell-framed, count-room, lines-fit, bytes-fit, one-totalled, all-totalled}
+use Rattle.cell.proofs.pieces.TotalLaws.{Totalling, totalling-none, totalling-framed, totalling-room, totalling-lines-fit, totalling-bytes-fit, totalling-next, totalling-all}
 use Rattle.cell.proofs.pieces.measure.Statement.{statement}
 use Rattle.cell.proofs.pieces.measure.Tie as tie
 
@@ -15,7 +15,7 @@ abbrev μ-loop : tie.MeasureT-loop
 μ-loop lengths columns text starts offsets rects n counts₀ lines₀ bytes₀ k₀ counts lines bytes k = n - k
 
 loop-holds : tie.Need-loop-holds Inv-loop μ-loop
-loop-holds c = search (needs, none-totalled)
+loop-holds c = search (needs, totalling-none)
 
 mul-top : tie.Need-mul-top Inv-loop μ-loop
 mul-top c = omega arith
@@ -65,19 +65,19 @@ cast-right c = fits-8-64 (c .shared-slice-known10 .given _)
 measure-cell-requires : tie.Need-measure-cell-requires Inv-loop μ-loop
 measure-cell-requires c κs =
     let turn : tie.In-loop Inv-loop μ-loop = search needs in
-    (search needs, cell-framed _ _ _ _ _ _ _ _ (turn .before .loop .inv .1) (turn .loop-test .taken))
+    (search needs, totalling-framed _ _ _ _ _ _ _ _ (turn .before .loop .inv .1) (turn .loop-test .taken))
 
 cast-counts : tie.Need-cast-counts Inv-loop μ-loop
 cast-counts c = search needs
 
 slice-write-counts : tie.Need-slice-write-counts Inv-loop μ-loop
-slice-write-counts c = search count-room
+slice-write-counts c = search totalling-room
 
 add-lines : tie.Need-add-lines Inv-loop μ-loop
-add-lines c = search (needs, lines-fit)
+add-lines c = search (needs, totalling-lines-fit)
 
 add-bytes : tie.Need-add-bytes Inv-loop μ-loop
-add-bytes c = search (needs, bytes-fit)
+add-bytes c = search (needs, totalling-bytes-fit)
 
 add-k : tie.Need-add-k Inv-loop μ-loop
 add-k c = omega arith
@@ -86,13 +86,13 @@ loop-less : tie.Need-loop-less Inv-loop μ-loop
 loop-less c = omega arith
 
 loop-again : tie.Need-loop-again Inv-loop μ-loop
-loop-again c = search (needs, one-totalled)
+loop-again c = search (needs, totalling-next)
 
 same-length : tie.Need-same-length Inv-loop μ-loop
 same-length c = search needs
 
 returns : tie.Need-returns Inv-loop μ-loop
-returns c = all-totalled _ _ _ _ _ _ _ _ (c .before .loop .inv .1) (omega arith)
+returns c = totalling-all _ _ _ _ _ _ _ _ (c .before .loop .inv .1) (omega arith)
 
 pub measure-spec : {M : Type 1} → statement M
 measure-spec =

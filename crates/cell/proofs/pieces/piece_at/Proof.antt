@@ -1,7 +1,7 @@
 -- `cell::pieces::piece_at` meets its contract: the line is the definition's, and so is its piece.
 use borrow.Author.Needs.{needs}
 use mir.Facts.{fits-16-64}
-use Rattle.cell.proofs.pieces.PieceLaws.{line-inside, line-fits, line-low, start-fits, part-checked, piece-told}
+use Rattle.cell.proofs.pieces.PieceLaws.{cuttable-inside, cuttable-fits, cuttable-low, cuttable-start-fits, cuttable-checked, piece-told}
 use Rattle.cell.proofs.pieces.piece_at.Statement.{statement}
 use Rattle.cell.proofs.pieces.piece_at.Tie as tie
 
@@ -24,7 +24,7 @@ cast-to : tie.Need-cast-to
 cast-to c = fits-16-64 (c .shared-slice-known7 .given _)
 
 add-to : tie.Need-add-to
-add-to c = search line-fits
+add-to c = search cuttable-fits
 
 sub-line : tie.Need-sub-line
 sub-line c = search needs
@@ -33,7 +33,7 @@ part-line-start : tie.Need-part-line-start
 part-line-start c = search needs
 
 part-line-end : tie.Need-part-line-end
-part-line-end c = search line-inside
+part-line-end c = search cuttable-inside
 
 mul-column : tie.Need-mul-column
 mul-column c = search needs
@@ -45,16 +45,16 @@ cast-column : tie.Need-cast-column
 cast-column c = fits-16-64 (c .shared-slice-known8 .given _)
 
 byte-at-requires : tie.Need-byte-at-requires
-byte-at-requires c κs = search (needs, line-low)
+byte-at-requires c κs = search (needs, cuttable-low)
 
 add-start : tie.Need-add-start
-add-start c = search start-fits
+add-start c = search cuttable-start-fits
 
 byte-at-requires-2 : tie.Need-byte-at-requires-2
-byte-at-requires-2 c κs = search (needs, line-low)
+byte-at-requires-2 c κs = search (needs, cuttable-low)
 
 cut-part-requires : tie.Need-cut-part-requires
-cut-part-requires c κs = search part-checked
+cut-part-requires c κs = search cuttable-checked
 
 returns : tie.Need-returns
 returns c = search piece-told

@@ -108,3 +108,4 @@ pub record Prepared (s : Source) (rs : List Rect) (counts : List ℕ) (size : Te
   pub lines : size .lines ≡ length (allLines s rs)
   pub bytes : size .bytes ≡ length (joinText (allLines s rs))
   pub counted : CountedBy (λ r. length (keptLines s r)) rs counts
+  pub fewBytes : size .bytes ≤ 67108864

@@ -2,6 +2,7 @@
 use crate::pieces::cut_line;
 use text::ByteAt;
 use text::Column;
+use writer::copy;
 ghost use Prim.Native.Nat.{ℕ, _+_, _≤_, _<_};
 ghost use mathlib.Core.Path.{_≡_};
 ghost use mathlib.Core.List.{_++_, map};
@@ -9,20 +10,6 @@ ghost use lib.ListN.{length, take, drop};
 ghost use Rattle.seq.specs.Lists.{range};
 ghost use Rattle.grid.specs.Flat.{joinText};
 ghost use Rattle.cell.specs.Text.{source, cutBetween, SourceReady, Cuttable};
-
-// A text copied into another, from byte `at` on.
-fn copy_to(from: &[u8], at: ByteAt, out: &mut [u8])
-    requires { ⌜ at .0 + length (now from) ≤ length (now out) ⌝ }
-    ensures { λ _.
-        let end = at .0 + length (now (from .entry)) in
-        ⌜ now (out .exit) ≡ take (at .0) (now (out .entry)) ++ now (from .entry) ++ drop end (now (out .entry)) ⌝ }
-{
-    let mut i = 0;
-    while i < from.len() {
-        out[at.0 + i] = from[i];
-        i += 1;
-    }
-}
 
 // The first `count` lines of a cell: their lengths from entry `at` on, and their text from `byte`
 // on. Answers where the text ends.
@@ -47,7 +34,8 @@ pub fn write_lines(
     requires { let sheet = source (now lengths) (now columns) (now text) (now starts) (now offsets) in
         let texts = map (cutBetween sheet (left .0) (right .0)) (range (top + 1) count) in
         ⌜ (at + count ≤ length (now «out_lengths»))
-        × (byte .0 + length (joinText texts) ≤ length (now «out_text»)) ⌝ }
+        × (byte .0 + length (joinText texts) ≤ length (now «out_text»))
+        × (byte .0 + length (joinText texts) ≤ 67108864) ⌝ }
     ensures { λ r.
         let sheet = source (now (lengths .entry)) (now (columns .entry)) (now (text .entry)) (now (starts .entry)) (now (offsets .entry)) in
         let texts = map (cutBetween sheet (left .0) (right .0)) (range (top + 1) count) in
@@ -70,8 +58,7 @@ pub fn write_lines(
             top + 1 + i,
         );
         out_lengths[at + i] = piece.len() as u16;
-        copy_to(piece, ByteAt(end), out_text);
-        end += piece.len();
+        end = copy(piece, out_text, end);
         i += 1;
     }
     ByteAt(end)

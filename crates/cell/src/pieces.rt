@@ -144,7 +144,7 @@ pub fn measure(
         let sheet = source (now (lengths .entry)) (now (columns .entry)) (now (text .entry)) (now (starts .entry)) (now (offsets .entry)) in
         let rs = rectsOf n (now (rects .entry)) in
         ⌜ (r .lines ≡ length (allLines sheet rs)) × (r .bytes ≡ length (joinText (allLines sheet rs)))
-        × CountedBy (λ r. length (keptLines sheet r)) rs (now (counts .exit)) ⌝ }
+        × CountedBy (λ r. length (keptLines sheet r)) rs (now (counts .exit)) × (r .bytes ≤ 67108864) ⌝ }
 {
     let mut lines = 0;
     let mut bytes = 0;

@@ -96,6 +96,7 @@ module _ {a : SheetArrays} {o : Outcome} (t : TracedSheet a o) {tops lefts : Bou
             cellRoom = ltb-false _ _ (f2 .1);
             lengthRoom = rw (← m .lines) (ltb-false _ _ (f1 .1));
             textRoom = rw (← m .bytes) (ltb-false _ _ (f0 .1));
+            fewBytes = rw (← m .bytes) (m .fewBytes);
           }
 
       pub finish-written : (after : TableArrays) → after ≡ tableOver (tableArrays (tableFrom (linesIn a) rs)) out
@@ -150,8 +151,9 @@ module _ {a : SheetArrays} {o : Outcome} {starts counts : List ℕ} {tops lefts 
   )
 
   pub writable-text : SourceReady drawn × (((o .cells ≤ 1024) × (4 * o .cells ≤ length (a .rects)) × CountedBy (λ r. length (keptLines drawn r)) held counts)
-      × (((r : Rect) → List·Memᴰ r held → Framed drawn r) × ((length (allLines drawn held) ≤ length (out .lengths)) × (length (joinText (allLines drawn held)) ≤ length (out .text)))))
-  writable-text = (w .ready, ((w .traced .through .few, traced-room a o (w .traced), w .counted), (traced-framed a o (w .traced) starts, (w .lengthRoom, w .textRoom))))
+      × (((r : Rect) → List·Memᴰ r held → Framed drawn r)
+      × ((length (allLines drawn held) ≤ length (out .lengths)) × (length (joinText (allLines drawn held)) ≤ length (out .text)) × (length (joinText (allLines drawn held)) ≤ 67108864))))
+  writable-text = (w .ready, ((w .traced .through .few, traced-room a o (w .traced), w .counted), (traced-framed a o (w .traced) starts, (w .lengthRoom, w .textRoom, w .fewBytes))))
 
   module _ (p : Parts) (parts : PartsFound a o p) where
     pub writable-head-line : p .head < length (a .lengths)

@@ -21,3 +21,4 @@ pub record Writable (a : SheetArrays) (o : Outcome) (starts counts : List ℕ) (
   pub cellRoom : 5 * o .cells ≤ length (out .cells)
   pub lengthRoom : length (allLines (sourceIn a starts) (rectsIn a (o .cells))) ≤ length (out .lengths)
   pub textRoom : length (joinText (allLines (sourceIn a starts) (rectsIn a (o .cells)))) ≤ length (out .text)
+  pub fewBytes : length (joinText (allLines (sourceIn a starts) (rectsIn a (o .cells)))) ≤ 67108864

@@ -36,7 +36,8 @@ pub fn write_text(
     requires { let sheet = source (now lengths) (now columns) (now text) (now starts) (now offsets) in
         let rs = rectsOf n (now rects) in
         ⌜ (length (allLines sheet rs) ≤ length (now «out_lengths»))
-        × (length (joinText (allLines sheet rs)) ≤ length (now «out_text»)) ⌝ }
+        × (length (joinText (allLines sheet rs)) ≤ length (now «out_text»))
+        × (length (joinText (allLines sheet rs)) ≤ 67108864) ⌝ }
     ensures { λ _.
         let sheet = source (now (lengths .entry)) (now (columns .entry)) (now (text .entry)) (now (starts .entry)) (now (offsets .entry)) in
         let rs = rectsOf n (now (rects .entry)) in

@@ -77,14 +77,15 @@ module _ (lengths columns text starts offsets rects : List ℕ) (n : ℕ) (count
               fewBytes = omega (arith, t .fewBytes, weight .1);
             }
 
-    pub totalling-all : n ≤ k
+    pub totalling-all : k ≤ n → n ≤ 1024 → n ≤ k
         → (lines ≡ length (allLines (source lengths columns text starts offsets) (rectsOf n rects)))
         × (bytes ≡ length (joinText (allLines (source lengths columns text starts offsets) (rectsOf n rects))))
-        × CountedBy (λ r. length (kept r)) (rectsOf n rects) counts
-    totalling-all done = (
+        × CountedBy (λ r. length (kept r)) (rectsOf n rects) counts × (bytes ≤ 67108864)
+    totalling-all low few done = (
       t .counted ∙ rw (take-all k (rectsOf n rects) (rw length-rects done)) (sym (length-flatMap-sum kept (rectsOf n rects))),
       t .summed ∙ rw (take-all k (rectsOf n rects) (rw length-rects done)) all-bytes,
       (omega (arith, length-rects n rects, t .same, t .room), λ i low. t .noted i (omega (arith, length-rects n rects))),
+      omega (arith, t .fewBytes),
     ) where
       all-bytes : sum (map (λ r. sum (map length (kept r))) (rectsOf n rects)) ≡ length (joinText (allLines (source lengths columns text starts offsets) (rectsOf n rects)))
       all-bytes =
@@ -109,6 +110,6 @@ module _ (lengths columns text offsets rects : List ℕ) (n : ℕ) (starts₀ co
   pub preparable-prepared : (counts : List ℕ) (size : TextSize)
       → (size .lines ≡ length (allLines (source lengths columns text starts offsets) (rectsOf n rects)))
       × (size .bytes ≡ length (joinText (allLines (source lengths columns text starts offsets) (rectsOf n rects))))
-      × CountedBy (λ r. length (keptLines (source lengths columns text starts offsets) r)) (rectsOf n rects) counts
+      × CountedBy (λ r. length (keptLines (source lengths columns text starts offsets) r)) (rectsOf n rects) counts × (size .bytes ≤ 67108864)
       → Prepared (source lengths columns text starts offsets) (rectsOf n rects) counts size
-  preparable-prepared counts size m = record { ready = ready; lines = m .0; bytes = m .1; counted = m .2 }
+  preparable-prepared counts size m = record { ready = ready; lines = m .0; bytes = m .1; counted = m .2; fewBytes = m .3 }

@@ -1,11 +1,9 @@
 -- `cell::lines::write_lines` meets its contract. The invariant: the first i lines are written, up to byte `end`.
-use Prim.Native.Nat.{_*_, _-_, _^_, _≤_, _<_}
+use Prim.Native.Nat.{_-_, _≤_}
 use native.Mathlib.Omega.{arith}
-use lib.ListN.{length}
 use borrow.Author.Needs.{needs}
-use denote.Ref.{now}
 use Rattle.cell.specs.Text.{source}
-use Rattle.cell.proofs.lines.WriteLaws.{pieces-cuttable, linesWritten-first-fits, linesWritten-line-fits, pieces-fit, LinesWritten, linesWritten-none, linesWritten-room, linesWritten-end-fits, linesWritten-next, linesWritten-end, linesWritten-lengths, linesWritten-text}
+use Rattle.cell.proofs.lines.WriteLaws.{pieces-cuttable, linesWritten-first-fits, linesWritten-line-fits, pieces-fit, pieces-small, LinesWritten, linesWritten-none, linesWritten-low, linesWritten-next, linesWritten-end, linesWritten-lengths, linesWritten-text}
 use Rattle.cell.proofs.lines.write_lines.Statement.{statement}
 use Rattle.cell.proofs.lines.write_lines.Tie as tie
 
@@ -40,17 +38,8 @@ mul-out-lengths c = omega arith
 slice-write-out-lengths : tie.Need-slice-write-out-lengths Inv-loop μ-loop
 slice-write-out-lengths c = omega arith
 
-copy-to-requires : tie.Need-copy-to-requires Inv-loop μ-loop
-copy-to-requires c κs = search linesWritten-room
-
--- no text is so long that its end would not fit
-text-small : (start : tie.Start Inv-loop μ-loop) → length (now (start .args .out-text)) * 1 < 2 ^ 63
-text-small start = search needs
-
-add-end : tie.Need-add-end Inv-loop μ-loop
-add-end c =
-    let start : tie.Start Inv-loop μ-loop = search needs in
-    search (linesWritten-end-fits, text-small start)
+copy-requires : tie.Need-copy-requires Inv-loop μ-loop
+copy-requires c κs = (search linesWritten-low, search pieces-small)
 
 add-i : tie.Need-add-i Inv-loop μ-loop
 add-i c = omega arith
@@ -84,8 +73,7 @@ write-lines-spec =
     add-out-lengths
     mul-out-lengths
     slice-write-out-lengths
-    copy-to-requires
-    add-end
+    copy-requires
     add-i
     loop-less
     loop-again

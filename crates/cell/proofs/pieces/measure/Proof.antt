@@ -92,7 +92,7 @@ same-length : tie.Need-same-length Inv-loop μ-loop
 same-length c = search needs
 
 returns : tie.Need-returns Inv-loop μ-loop
-returns c = totalling-all _ _ _ _ _ _ _ _ (c .before .loop .inv .1) (omega arith)
+returns c = totalling-all _ _ _ _ _ _ _ _ (c .before .loop .inv .1) (c .before .loop .inv .0) (omega arith) (omega arith)
 
 pub measure-spec : {M : Type 1} → statement M
 measure-spec =

@@ -4,7 +4,7 @@ use mir.Facts.{fits-8-64}
 use native.Mathlib.Omega.{arith}
 use borrow.Author.Needs.{needs}
 use Rattle.cell.specs.Text.{source}
-use Rattle.table.proofs.lines.WriteLaws.{TextWritten, no-cell-lines, count-inside, cell-cuttable, line-count-fits, cell-line-room, cell-byte-room, cell-lines, all-lengths-written, all-text-written}
+use Rattle.table.proofs.lines.WriteLaws.{TextWritten, no-cell-lines, count-inside, cell-cuttable, line-count-fits, cell-line-room, cell-byte-room, cell-byte-few, cell-lines, all-lengths-written, all-text-written}
 use Rattle.table.proofs.lines.write_text.Statement.{statement}
 use Rattle.table.proofs.lines.write_text.Tie as tie
 
@@ -60,7 +60,9 @@ cast-right c = fits-8-64 (c .shared-slice-known11 .given _)
 write-lines-requires : tie.Need-write-lines-requires Inv-loop μ-loop
 write-lines-requires c κs =
     let turn : tie.In-loop Inv-loop μ-loop = search needs in
-    (search needs, (search (cell-cuttable, turn .before .loop .inv .1, turn .loop-test .taken), (search cell-line-room, search (cell-byte-room, turn .before .loop .inv .1, turn .loop-test .taken))))
+    let written = turn .before .loop .inv .1 in
+    let inside = turn .loop-test .taken in
+    (search needs, (search (cell-cuttable, written, inside), (search cell-line-room, search (cell-byte-room, written, inside), search (cell-byte-few, written, inside))))
 
 add-line : tie.Need-add-line Inv-loop μ-loop
 add-line c = search line-count-fits

@@ -18,6 +18,10 @@ use Rattle.reading.specs.Call.{SheetArrays}
 use Rattle.fragments.specs.declared.part.Piece.{Piece}
 use Rattle.cell.specs.declared.pieces.TextSize.{TextSize}
 
+-- how many bytes all cells have at most: 65,536 in each of 1,024
+abbrev pub mostText : ℕ
+mostText = 67108864
+
 -- a drawing's arrays, where each line's text starts, and the byte of each slot
 pub record Source : Type 0 where
   pub lengths : List ℕ
@@ -108,4 +112,4 @@ pub record Prepared (s : Source) (rs : List Rect) (counts : List ℕ) (size : Te
   pub lines : size .lines ≡ length (allLines s rs)
   pub bytes : size .bytes ≡ length (joinText (allLines s rs))
   pub counted : CountedBy (λ r. length (keptLines s r)) rs counts
-  pub fewBytes : size .bytes ≤ 67108864
+  pub fewBytes : size .bytes ≤ mostText

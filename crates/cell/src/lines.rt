@@ -9,7 +9,7 @@ ghost use mathlib.Core.List.{_++_, map};
 ghost use lib.ListN.{length, take, drop};
 ghost use Rattle.seq.specs.Lists.{range};
 ghost use Rattle.grid.specs.Flat.{joinText};
-ghost use Rattle.cell.specs.Text.{source, cutBetween, SourceReady, Cuttable};
+ghost use Rattle.cell.specs.Text.{source, cutBetween, SourceReady, Cuttable, mostText};
 
 // The first `count` lines of a cell: their lengths from entry `at` on, and their text from `byte`
 // on. Answers where the text ends.
@@ -35,7 +35,7 @@ pub fn write_lines(
         let texts = map (cutBetween sheet (left .0) (right .0)) (range (top + 1) count) in
         ⌜ (at + count ≤ length (now «out_lengths»))
         × (byte .0 + length (joinText texts) ≤ length (now «out_text»))
-        × (byte .0 + length (joinText texts) ≤ 67108864) ⌝ }
+        × (byte .0 + length (joinText texts) ≤ mostText) ⌝ }
     ensures { λ r.
         let sheet = source (now (lengths .entry)) (now (columns .entry)) (now (text .entry)) (now (starts .entry)) (now (offsets .entry)) in
         let texts = map (cutBetween sheet (left .0) (right .0)) (range (top + 1) count) in

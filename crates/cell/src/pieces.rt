@@ -12,7 +12,8 @@ ghost use Rattle.seq.specs.Lists.{sum};
 ghost use Rattle.grid.specs.Values.{Rect};
 ghost use Rattle.grid.specs.Flat.{joinText};
 ghost use Rattle.representation.specs.Arrays.{rectsOf};
-ghost use Rattle.cell.specs.Text.{source, cutBetween, keptLines, allLines, SourceReady, Cuttable, PieceOf, Framed, CountedBy, Preparable, Prepared};
+ghost use Rattle.cell.specs.Text.{mostText, source, cutBetween, keptLines, allLines};
+ghost use Rattle.cell.specs.Text.{SourceReady, Cuttable, PieceOf, Framed, CountedBy, Preparable, Prepared};
 
 // How many lines, and their bytes.
 pub struct TextSize {
@@ -144,7 +145,7 @@ pub fn measure(
         let sheet = source (now (lengths .entry)) (now (columns .entry)) (now (text .entry)) (now (starts .entry)) (now (offsets .entry)) in
         let rs = rectsOf n (now (rects .entry)) in
         ⌜ (r .lines ≡ length (allLines sheet rs)) × (r .bytes ≡ length (joinText (allLines sheet rs)))
-        × CountedBy (λ r. length (keptLines sheet r)) rs (now (counts .exit)) × (r .bytes ≤ 67108864) ⌝ }
+        × CountedBy (λ r. length (keptLines sheet r)) rs (now (counts .exit)) × (r .bytes ≤ mostText) ⌝ }
 {
     let mut lines = 0;
     let mut bytes = 0;

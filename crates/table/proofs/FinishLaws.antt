@@ -20,7 +20,7 @@ use Rattle.representation.specs.Edges.{Collected, rowLinesBelow, columnLinesBel
 use Rattle.representation.specs.LayoutEntries.{linesHeld, Rising, Numbered, columnEntries}
 use Rattle.representation.specs.declared.Bounds.{Bounds}
 use Rattle.representation.specs.declared.Parts.{Parts}
-use Rattle.cell.specs.Text.{Source, sourceIn, keptLines, allLines, SourceReady, Framed, CountedBy, Preparable, Prepared}
+use Rattle.cell.specs.Text.{Source, sourceIn, keptLines, allLines, SourceReady, Framed, CountedBy, Preparable, Prepared, mostText}
 use Rattle.cell.specs.declared.pieces.TextSize.{TextSize}
 use Rattle.representation.specs.TableEntries.{sectionEntries, tableEntries}
 use Rattle.table.specs.Room.{tableTooShort}
@@ -152,7 +152,7 @@ module _ {a : SheetArrays} {o : Outcome} {starts counts : List ℕ} {tops lefts 
 
   pub writable-text : SourceReady drawn × (((o .cells ≤ 1024) × (4 * o .cells ≤ length (a .rects)) × CountedBy (λ r. length (keptLines drawn r)) held counts)
       × (((r : Rect) → List·Memᴰ r held → Framed drawn r)
-      × ((length (allLines drawn held) ≤ length (out .lengths)) × (length (joinText (allLines drawn held)) ≤ length (out .text)) × (length (joinText (allLines drawn held)) ≤ 67108864))))
+      × ((length (allLines drawn held) ≤ length (out .lengths)) × (length (joinText (allLines drawn held)) ≤ length (out .text)) × (length (joinText (allLines drawn held)) ≤ mostText))))
   writable-text = (w .ready, ((w .traced .through .few, traced-room a o (w .traced), w .counted), (traced-framed a o (w .traced) starts, (w .lengthRoom, w .textRoom, w .fewBytes))))
 
   module _ (p : Parts) (parts : PartsFound a o p) where

@@ -5,7 +5,7 @@ use lib.ListN.{length}
 use Rattle.grid.specs.Flat.{TableArrays, joinText}
 use Rattle.representation.specs.Edges.{Collected, rowLinesBelow, columnLinesBelow}
 use Rattle.representation.specs.declared.Bounds.{Bounds}
-use Rattle.cell.specs.Text.{sourceIn, keptLines, allLines, SourceReady, CountedBy}
+use Rattle.cell.specs.Text.{sourceIn, keptLines, allLines, SourceReady, CountedBy, mostText}
 use Rattle.reading.specs.Call.{SheetArrays, rectsIn, TracedSheet}
 use Rattle.reading.specs.declared.Outcome.{Outcome}
 
@@ -21,4 +21,4 @@ pub record Writable (a : SheetArrays) (o : Outcome) (starts counts : List ℕ) (
   pub cellRoom : 5 * o .cells ≤ length (out .cells)
   pub lengthRoom : length (allLines (sourceIn a starts) (rectsIn a (o .cells))) ≤ length (out .lengths)
   pub textRoom : length (joinText (allLines (sourceIn a starts) (rectsIn a (o .cells)))) ≤ length (out .text)
-  pub fewBytes : length (joinText (allLines (sourceIn a starts) (rectsIn a (o .cells)))) ≤ 67108864
+  pub fewBytes : length (joinText (allLines (sourceIn a starts) (rectsIn a (o .cells)))) ≤ mostText

@@ -10,7 +10,7 @@ ghost use Rattle.grid.specs.Answer.{over};
 ghost use Rattle.grid.specs.Values.{Rect};
 ghost use Rattle.grid.specs.Flat.{joinText};
 ghost use Rattle.representation.specs.Arrays.{rectsOf};
-ghost use Rattle.cell.specs.Text.{source, keptLines, allLines, SourceReady, Framed, CountedBy};
+ghost use Rattle.cell.specs.Text.{source, keptLines, allLines, SourceReady, Framed, CountedBy, mostText};
 
 // The lines of all cells: their lengths, and their text back to back.
 pub fn write_text(
@@ -37,7 +37,7 @@ pub fn write_text(
         let rs = rectsOf n (now rects) in
         ⌜ (length (allLines sheet rs) ≤ length (now «out_lengths»))
         × (length (joinText (allLines sheet rs)) ≤ length (now «out_text»))
-        × (length (joinText (allLines sheet rs)) ≤ 67108864) ⌝ }
+        × (length (joinText (allLines sheet rs)) ≤ mostText) ⌝ }
     ensures { λ _.
         let sheet = source (now (lengths .entry)) (now (columns .entry)) (now (text .entry)) (now (starts .entry)) (now (offsets .entry)) in
         let rs = rectsOf n (now (rects .entry)) in

@@ -18,7 +18,7 @@ use Rattle.representation.specs.Arrays.{codeAt}
 use Rattle.grid.proofs.CutLaws.{cut-shorter}
 use Rattle.writer.specs.Writing.{Wrote}
 use Rattle.writer.proofs.WritingLaws.{putDown-fits}
-use Rattle.cell.specs.Text.{Source, cutBetween, SourceReady, Cuttable}
+use Rattle.cell.specs.Text.{Source, cutBetween, SourceReady, Cuttable, mostText}
 
 -- its cut lines below `top`
 abbrev pub pieces : Source → ℕ → ℕ → ℕ → ℕ → List (List ℕ)
@@ -78,7 +78,7 @@ module _ (s : Source) (top left right count at byte : ℕ) (lengths text : List 
     pub linesWritten-line-fits : SourceReady s → i < count → Fits w64 (top + 1 + i)
     linesWritten-line-fits ready h = record { fits = omega (arith, line-small s top left right count i h ready (w .cuttable)) }
 
-    pub linesWritten-low : byte + length (joinText (pieces s top left right count)) ≤ 67108864 → end ≤ 4294967296
+    pub linesWritten-low : byte + length (joinText (pieces s top left right count)) ≤ mostText → end ≤ 4294967296
     linesWritten-low few = omega (arith, w .place, first-shorter (λ t. t) (pieces s top left right count) i)
 
     module _ (h : i < count) (piece : List ℕ) (e : piece ≡ cutBetween s left right (top + 1 + i)) where

@@ -18,7 +18,7 @@ use Rattle.grid.specs.Flat.{joinText}
 use Rattle.representation.specs.Arrays.{rectsOf, rectIn}
 use Rattle.representation.proofs.RectsLaws.{length-rects, getD-rects}
 use Rattle.seq.proofs.Positions.{getD-mem}
-use Rattle.cell.specs.Text.{source, keptLines, allLines, noRect, SourceReady, Framed, CountedBy, Preparable, Prepared}
+use Rattle.cell.specs.Text.{source, keptLines, allLines, noRect, SourceReady, Framed, CountedBy, Preparable, Prepared, mostText}
 use Rattle.cell.specs.declared.pieces.TextSize.{TextSize}
 
 -- a text's bytes, line by line
@@ -80,7 +80,7 @@ module _ (lengths columns text starts offsets rects : List ℕ) (n : ℕ) (count
     pub totalling-all : k ≤ n → n ≤ 1024 → n ≤ k
         → (lines ≡ length (allLines (source lengths columns text starts offsets) (rectsOf n rects)))
         × (bytes ≡ length (joinText (allLines (source lengths columns text starts offsets) (rectsOf n rects))))
-        × CountedBy (λ r. length (kept r)) (rectsOf n rects) counts × (bytes ≤ 67108864)
+        × CountedBy (λ r. length (kept r)) (rectsOf n rects) counts × (bytes ≤ mostText)
     totalling-all low few done = (
       t .counted ∙ rw (take-all k (rectsOf n rects) (rw length-rects done)) (sym (length-flatMap-sum kept (rectsOf n rects))),
       t .summed ∙ rw (take-all k (rectsOf n rects) (rw length-rects done)) all-bytes,
@@ -110,6 +110,6 @@ module _ (lengths columns text offsets rects : List ℕ) (n : ℕ) (starts₀ co
   pub preparable-prepared : (counts : List ℕ) (size : TextSize)
       → (size .lines ≡ length (allLines (source lengths columns text starts offsets) (rectsOf n rects)))
       × (size .bytes ≡ length (joinText (allLines (source lengths columns text starts offsets) (rectsOf n rects))))
-      × CountedBy (λ r. length (keptLines (source lengths columns text starts offsets) r)) (rectsOf n rects) counts × (size .bytes ≤ 67108864)
+      × CountedBy (λ r. length (keptLines (source lengths columns text starts offsets) r)) (rectsOf n rects) counts × (size .bytes ≤ mostText)
       → Prepared (source lengths columns text starts offsets) (rectsOf n rects) counts size
   preparable-prepared counts size m = record { ready = ready; lines = m .0; bytes = m .1; counted = m .2; fewBytes = m .3 }

@@ -18,19 +18,19 @@ use Rattle.grid.specs.Flat.{joinText}
 use Rattle.representation.specs.Arrays.{rectsOf, rectIn}
 use Rattle.representation.proofs.RectsLaws.{length-rects, getD-rects}
 use Rattle.seq.proofs.Positions.{getD-mem}
-use Rattle.cell.specs.Text.{source, keptLines, allLines, noRect, SourceReady, Framed, CountedBy, Preparable, Prepared, mostText}
+use Rattle.cell.specs.Text.{Source, source, keptLines, allLines, noRect, SourceReady, Framed, CountedBy, Preparable, Prepared, mostText}
 use Rattle.cell.specs.declared.pieces.TextSize.{TextSize}
 
 -- a text's bytes, line by line
 pub length-join : (l : List (List ℕ)) → length (joinText l) ≡ sum (map length l)
 length-join l = length-flatMap-sum (λ t. t) l
 
-module _ (lengths columns text starts offsets rects : List ℕ) (n : ℕ) (counts₀ : List ℕ) where
+module _ (s : Source) (rects : List ℕ) (n : ℕ) (counts₀ : List ℕ) where
   abbrev kept : Rect → List (List ℕ)
-  kept r = keptLines (source lengths columns text starts offsets) r
+  kept r = keptLines s r
 
   pub record Totalling (counts : List ℕ) (lines bytes k : ℕ) : Type 0 where
-    pub framed : (r : Rect) → List·Memᴰ r (rectsOf n rects) → Framed (source lengths columns text starts offsets) r
+    pub framed : (r : Rect) → List·Memᴰ r (rectsOf n rects) → Framed s r
     pub same : length counts ≡ length counts₀
     pub room : n ≤ length counts₀
     pub noted : (i : ℕ) → i < k → getD counts i 0 ≡ length (kept (getD (rectsOf n rects) i noRect))
@@ -39,7 +39,7 @@ module _ (lengths columns text starts offsets rects : List ℕ) (n : ℕ) (count
     pub fewLines : lines ≤ 128 * k
     pub fewBytes : bytes ≤ 65536 * k
 
-  pub totalling-none : ((r : Rect) → List·Memᴰ r (rectsOf n rects) → Framed (source lengths columns text starts offsets) r) → n ≤ length counts₀ → Totalling counts₀ 0 0 0
+  pub totalling-none : ((r : Rect) → List·Memᴰ r (rectsOf n rects) → Framed s r) → n ≤ length counts₀ → Totalling counts₀ 0 0 0
   unfolding sum
   totalling-none framed room =
       record { framed = framed; same = refl; room = room; noted = λ i low. absurd (omega arith); counted = refl; summed = refl; fewLines = omega arith; fewBytes = omega arith }
@@ -49,7 +49,7 @@ module _ (lengths columns text starts offsets rects : List ℕ) (n : ℕ) (count
       here : getD (rectsOf n rects) k noRect ≡ rectIn rects k
       here = getD-rects n k rects noRect h
 
-      pub totalling-framed : Framed (source lengths columns text starts offsets) (rectIn rects k)
+      pub totalling-framed : Framed s (rectIn rects k)
       totalling-framed = rw here at (t .framed (getD (rectsOf n rects) k noRect) (getD-mem (rectsOf n rects) k noRect (rw length-rects h)))
 
       pub totalling-room : k < length counts
@@ -78,8 +78,8 @@ module _ (lengths columns text starts offsets rects : List ℕ) (n : ℕ) (count
             }
 
     pub totalling-all : k ≤ n → n ≤ 1024 → n ≤ k
-        → (lines ≡ length (allLines (source lengths columns text starts offsets) (rectsOf n rects)))
-        × (bytes ≡ length (joinText (allLines (source lengths columns text starts offsets) (rectsOf n rects))))
+        → (lines ≡ length (allLines s (rectsOf n rects)))
+        × (bytes ≡ length (joinText (allLines s (rectsOf n rects))))
         × CountedBy (λ r. length (kept r)) (rectsOf n rects) counts × (bytes ≤ mostText)
     totalling-all low few done = (
       t .counted ∙ rw (take-all k (rectsOf n rects) (rw length-rects done)) (sym (length-flatMap-sum kept (rectsOf n rects))),
@@ -87,7 +87,7 @@ module _ (lengths columns text starts offsets rects : List ℕ) (n : ℕ) (count
       (omega (arith, length-rects n rects, t .same, t .room), λ i low. t .noted i (omega (arith, length-rects n rects))),
       omega (arith, t .fewBytes),
     ) where
-      all-bytes : sum (map (λ r. sum (map length (kept r))) (rectsOf n rects)) ≡ length (joinText (allLines (source lengths columns text starts offsets) (rectsOf n rects)))
+      all-bytes : sum (map (λ r. sum (map length (kept r))) (rectsOf n rects)) ≡ length (joinText (allLines s (rectsOf n rects)))
       all-bytes =
           sym (ap length (flatMap-flatMap (λ t. t) kept (rectsOf n rects)) ∙ length-flatMap-sum (λ r. joinText (kept r)) (rectsOf n rects)
           ∙ ap (λ (f : Rect → ℕ). sum (map f (rectsOf n rects))) (λ i r. length-join (kept r) i))

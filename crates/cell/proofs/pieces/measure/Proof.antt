@@ -3,13 +3,14 @@ use Prim.Native.Nat.{_-_, _≤_}
 use mir.Facts.{fits-8-64}
 use native.Mathlib.Omega.{arith}
 use borrow.Author.Needs.{needs}
+use Rattle.cell.specs.Text.{source}
 use Rattle.cell.proofs.pieces.TotalLaws.{Totalling, totalling-none, totalling-framed, totalling-room, totalling-lines-fit, totalling-bytes-fit, totalling-next, totalling-all}
 use Rattle.cell.proofs.pieces.measure.Statement.{statement}
 use Rattle.cell.proofs.pieces.measure.Tie as tie
 
 abbrev Inv-loop : tie.InvT-loop
 Inv-loop lengths columns text starts offsets rects n counts₀ lines₀ bytes₀ k₀ counts lines bytes k =
-    (k ≤ n) × Totalling lengths columns text starts offsets rects n counts₀ counts lines bytes k
+    (k ≤ n) × Totalling (source lengths columns text starts offsets) rects n counts₀ counts lines bytes k
 
 abbrev μ-loop : tie.MeasureT-loop
 μ-loop lengths columns text starts offsets rects n counts₀ lines₀ bytes₀ k₀ counts lines bytes k = n - k
@@ -65,7 +66,7 @@ cast-right c = fits-8-64 (c .shared-slice-known10 .given _)
 measure-cell-requires : tie.Need-measure-cell-requires Inv-loop μ-loop
 measure-cell-requires c κs =
     let turn : tie.In-loop Inv-loop μ-loop = search needs in
-    (search needs, totalling-framed _ _ _ _ _ _ _ _ (turn .before .loop .inv .1) (turn .loop-test .taken))
+    (search needs, totalling-framed _ _ _ _ (turn .before .loop .inv .1) (turn .loop-test .taken))
 
 cast-counts : tie.Need-cast-counts Inv-loop μ-loop
 cast-counts c = search needs
@@ -92,7 +93,7 @@ same-length : tie.Need-same-length Inv-loop μ-loop
 same-length c = search needs
 
 returns : tie.Need-returns Inv-loop μ-loop
-returns c = totalling-all _ _ _ _ _ _ _ _ (c .before .loop .inv .1) (c .before .loop .inv .0) (omega arith) (omega arith)
+returns c = totalling-all _ _ _ _ (c .before .loop .inv .1) (c .before .loop .inv .0) (omega arith) (omega arith)
 
 pub measure-spec : {M : Type 1} → statement M
 measure-spec =

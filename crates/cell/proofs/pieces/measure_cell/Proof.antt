@@ -3,13 +3,14 @@ use Prim.Native.Nat.{_-_, _≤_, _<_}
 use mathlib.Core.Logic.{⊎-elim}
 use native.Mathlib.Omega.{arith}
 use borrow.Author.Needs.{needs}
+use Rattle.cell.specs.Text.{source}
 use Rattle.cell.proofs.pieces.MeasureLaws.{Measuring, measuring-none, framed-cuttable, measuring-fits, measuring-empty, measuring-filled, measuring-all}
 use Rattle.cell.proofs.pieces.measure_cell.Statement.{statement}
 use Rattle.cell.proofs.pieces.measure_cell.Tie as tie
 
 abbrev Inv-loop : tie.InvT-loop
 Inv-loop lengths columns text starts offsets top left bottom right lines₀ bytes₀ y₀ lines bytes y =
-    (top < y) × (y ≤ bottom) × Measuring lengths columns text starts offsets top (left .0) bottom (right .0) lines bytes y
+    (top < y) × (y ≤ bottom) × Measuring (source lengths columns text starts offsets) top (left .0) bottom (right .0) lines bytes y
 
 abbrev μ-loop : tie.MeasureT-loop
 μ-loop lengths columns text starts offsets top left bottom right lines₀ bytes₀ y₀ lines bytes y = bottom - y
@@ -42,7 +43,7 @@ returns : tie.Need-returns Inv-loop μ-loop
 returns c =
     let start : tie.Start Inv-loop μ-loop = search needs in
     let m = c .before .loop .inv in
-    measuring-all _ _ _ _ _ _ _ _ _ _ _ _ (m .2) (start .pre .1) (m .1) (omega arith)
+    measuring-all _ _ _ _ _ _ _ _ (m .2) (start .pre .1) (m .1) (omega arith)
 
 pub measure-cell-spec : {M : Type 1} → statement M
 measure-cell-spec =

@@ -15,57 +15,57 @@ use Rattle.grid.specs.Slots.{gridOf}
 use Rattle.grid.specs.Layout.{innerLines, cellRead, layoutOf}
 use Rattle.grid.specs.Cut.{cellFragments}
 use Rattle.grid.specs.CutCall.{CutNumbers, cutNumbers}
-use Rattle.grid.specs.Flat.{FlatDrawing, linesFrom, linesOf}
+use Rattle.grid.specs.Flat.{FlatDrawing, linesOf}
 use Rattle.grid.specs.LayoutCall.{LayoutSpace, drawing}
 use Rattle.representation.specs.LayoutParts.{rectsAnswer}
-use Rattle.representation.specs.Arrays.{rectsOf, rectIn}
+use Rattle.representation.specs.Arrays.{rectIn}
 use Rattle.grid.specs.TableCall.{startsShort, noCell, cellCuts, cellAnswer, cellAfterwards}
 use Rattle.representation.specs.TableParts.{cutsCountOf, cutsArrayOf}
 use Rattle.grid.proofs.CellLaws.{cell-cuts}
 use Rattle.representation.proofs.RectsLaws.{length-rects, getD-rects}
 use Rattle.representation.proofs.TablePartsLaws.{short-cell, refused-cell, past-the-end, finished-cell}
-use Rattle.cell.specs.Text.{source, fragmentBetween, noRect}
+use Rattle.cell.specs.Text.{sourceIn, fragmentBetween, noRect}
 use Rattle.cell.specs.Cuts.{cutsOf}
 use Rattle.cell.specs.Answer.{cellCountOf, cellArrayOf, Cutting}
 use Rattle.cell.proofs.CellLaws.{rect-held}
-use Rattle.reading.specs.Call.{TracedSheet, Reading}
+use Rattle.reading.specs.Call.{SheetArrays, linesIn, rectsIn, TracedSheet, Reading}
 use Rattle.reading.specs.declared.Outcome.{Outcome}
-use Rattle.reading.proofs.SheetLaws.{cells-room, all-covered}
-use Rattle.cell.proofs.FrameLaws.{all-framed, cuts-told}
+use Rattle.reading.proofs.SheetLaws.{traced-room, traced-cover}
+use Rattle.cell.proofs.FrameLaws.{traced-framed, traced-cuts}
 
-pub cutting : (lengths columns text glyphs offsets rects : List ℕ) (o : Outcome) → TracedSheet lengths columns text glyphs offsets rects o
-    → (starts : List ℕ) → maxLines ≤ length starts → Cutting lengths columns text offsets rects starts (o .cells)
-cutting lengths columns text glyphs offsets rects o t starts room =
+pub traced-cutting : (a : SheetArrays) (o : Outcome) → TracedSheet a o → (starts : List ℕ) → maxLines ≤ length starts
+    → Cutting (a .lengths) (a .columns) (a .text) (a .offsets) (a .rects) starts (o .cells)
+traced-cutting a o t starts room =
     record {
       sheet = t .sheet;
       fewBytes = t .fewBytes;
       offsetRoom = t .roomy .offsetRoom;
       startRoom = omega (arith, t .sheet .fewLines, room);
       few = t .through .few;
-      rectRoom = cells-room lengths columns text glyphs offsets rects o t;
-      framed = all-framed lengths columns text glyphs offsets rects o t;
+      rectRoom = traced-room a o t;
+      framed = traced-framed a o t;
     }
 
 -- ---- cell k of a traced drawing
-module _ (lengths columns text glyphs offsets rects : List ℕ) (o : Outcome) (t : TracedSheet lengths columns text glyphs offsets rects o) (starts : List ℕ)
+module _ (a : SheetArrays) (o : Outcome) (t : TracedSheet a o) (starts : List ℕ)
     (k : ℕ) (h : k < o .cells) where
-  pub cell-here : getD (layoutOf (linesFrom lengths columns text) (gridOf (linesFrom lengths columns text)) (rectsOf (o .cells) rects) .cells) k noCell
-      ≡ cellRead (gridOf (linesFrom lengths columns text)) (rectsOf (o .cells) rects) (rectIn rects k)
+  pub cell-here : getD (layoutOf (linesIn a) (gridOf (linesIn a)) (rectsIn a (o .cells)) .cells) k noCell
+      ≡ cellRead (gridOf (linesIn a)) (rectsIn a (o .cells)) (rectIn (a .rects) k)
   unfolding layoutOf
   cell-here =
-      getD-map (cellRead (gridOf (linesFrom lengths columns text)) (rectsOf (o .cells) rects)) (rectsOf (o .cells) rects) k noCell noRect (rw length-rects h)
-      ∙ ap (cellRead (gridOf (linesFrom lengths columns text)) (rectsOf (o .cells) rects)) (getD-rects (o .cells) k rects noRect h)
+      getD-map (cellRead (gridOf (linesIn a)) (rectsIn a (o .cells))) (rectsIn a (o .cells)) k noCell noRect (rw length-rects h)
+      ∙ ap (cellRead (gridOf (linesIn a)) (rectsIn a (o .cells))) (getD-rects (o .cells) k (a .rects) noRect h)
 
-  cuts-here : cellCuts (linesFrom lengths columns text) (layoutOf (linesFrom lengths columns text) (gridOf (linesFrom lengths columns text)) (rectsOf (o .cells) rects)) k
-      ≡ cutsOf (source lengths columns text starts offsets) (rectIn rects k)
+  cuts-here : cellCuts (linesIn a) (layoutOf (linesIn a) (gridOf (linesIn a)) (rectsIn a (o .cells))) k
+      ≡ cutsOf (sourceIn a starts) (rectIn (a .rects) k)
   unfolding cellCuts
   cuts-here =
-      let lines = linesFrom lengths columns text in
-      let rs = rectsOf (o .cells) rects in
-      let r = rectIn rects k in
+      let lines = linesIn a in
+      let rs = rectsIn a (o .cells) in
+      let r = rectIn (a .rects) k in
       ap (λ (c : Cell). map (cutNumbers 0) (cellFragments lines (layoutOf lines (gridOf lines) rs) c)) cell-here
-      ∙ ap (map (cutNumbers 0)) (cell-cuts lines (gridOf lines) rs (all-covered lengths columns text glyphs offsets rects o t) (rect-held rects (o .cells) k h) ∙ sym (cuts-told lengths columns text glyphs offsets rects o t starts (rect-held rects (o .cells) k h)))
-      ∙ map-map (cutNumbers 0) (fragmentBetween (source lengths columns text starts offsets) (r .left) (r .right)) (innerLines r)
+      ∙ ap (map (cutNumbers 0)) (cell-cuts lines (gridOf lines) rs (traced-cover a o t) (rect-held (a .rects) (o .cells) k h) ∙ sym (traced-cuts a o t starts (rect-held (a .rects) (o .cells) k h)))
+      ∙ map-map (cutNumbers 0) (fragmentBetween (sourceIn a starts) (r .left) (r .right)) (innerLines r)
 
 -- ---- the returns of the call
 pub cell-no-starts : (w : LayoutSpace) (starts : List ℕ) (d : FlatDrawing) (k : ℕ) (out : List ℕ) → length starts < maxLines
@@ -77,31 +77,37 @@ starts-enough : (starts : List ℕ) → maxLines ≤ length starts → startsSho
 unfolding startsShort
 starts-enough starts room = le-ltb (length starts) maxLines room
 
-module _ (w : LayoutSpace) (starts : List ℕ) (room : maxLines ≤ length starts) (lines bytes : ℕ) (lengths columns text glyphs offsets rects : List ℕ) (k : ℕ)
-    (out : List ℕ) (s : Outcome) (r : Reading (rectsAnswer w (drawing lines bytes lengths columns text)) lengths columns text glyphs offsets rects s) where
-  pub cell-refused : (s .number ≡ 0 → ⊥)
-      → (refuse (s .number) (s .place) ≡ cellAnswer w (length starts) (drawing lines bytes lengths columns text) k out)
-      × (out ≡ cellAfterwards w (length starts) (drawing lines bytes lengths columns text) k out)
-  cell-refused nonzero = refused-cell w (length starts) (drawing lines bytes lengths columns text) k out (starts-enough starts room) (r .refused nonzero)
+module _ (w : LayoutSpace) (starts : List ℕ) (room : maxLines ≤ length starts) (lines bytes : ℕ) (a : SheetArrays) where
+  abbrev given : FlatDrawing
+  given = drawing lines bytes (a .lengths) (a .columns) (a .text)
 
-  cell-before : s .number ≡ 0 → k < s .cells
-      → (cutsCountOf (cutsOf (source lengths columns text starts offsets) (rectIn rects k)) out ≡ cellAnswer w (length starts) (drawing lines bytes lengths columns text) k out)
-      × (cutsArrayOf (cutsOf (source lengths columns text starts offsets) (rectIn rects k)) out ≡ cellAfterwards w (length starts) (drawing lines bytes lengths columns text) k out)
-  unfolding linesOf
-  cell-before complete before =
-      let last = finished-cell w (length starts) (drawing lines bytes lengths columns text) k out (starts-enough starts room) (r .accepted complete) (rw length-rects before) in
-      let same = sym (cuts-here lengths columns text glyphs offsets rects s (r .traced complete) starts k before) in
-      (ap (λ (l : List CutNumbers). cutsCountOf l out) same ∙ last .0, ap (λ (l : List CutNumbers). cutsArrayOf l out) same ∙ last .1)
+  module _ (k : ℕ) (out : List ℕ) (s : Outcome) (r : Reading (rectsAnswer w given) a s) where
+    abbrev cuts : List CutNumbers
+    cuts = cutsOf (sourceIn a starts) (rectIn (a .rects) k)
 
-  pub cell-finished : s .number ≡ 0 → (a : Answer ℕ) (after : List ℕ)
-      → (a ≡ cellCountOf (s .cells) k (cutsOf (source lengths columns text starts offsets) (rectIn rects k)) out) × (after ≡ cellArrayOf (s .cells) k (cutsOf (source lengths columns text starts offsets) (rectIn rects k)) out)
-      → (a ≡ cellAnswer w (length starts) (drawing lines bytes lengths columns text) k out) × (after ≡ cellAfterwards w (length starts) (drawing lines bytes lengths columns text) k out)
-  cell-finished complete a after told = go (leb (s .cells) k) refl where
-    go : (past : Bool) → leb (s .cells) k ≡ past
-        → (a ≡ cellAnswer w (length starts) (drawing lines bytes lengths columns text) k out) × (after ≡ cellAfterwards w (length starts) (drawing lines bytes lengths columns text) k out)
-    go true e =
-        let last =
-        past-the-end w (length starts) (drawing lines bytes lengths columns text) k out (starts-enough starts room) (r .accepted complete)
-        (rw length-rects (leb-true (s .cells) k e)) in
-        (rw e at (told .0) ∙ last .0, rw e at (told .1) ∙ last .1)
-    go false e = let last = cell-before complete (leb-false (s .cells) k e) in (rw e at (told .0) ∙ last .0, rw e at (told .1) ∙ last .1)
+    pub cell-refused : (s .number ≡ 0 → ⊥)
+        → (refuse (s .number) (s .place) ≡ cellAnswer w (length starts) given k out)
+        × (out ≡ cellAfterwards w (length starts) given k out)
+    cell-refused nonzero = refused-cell w (length starts) given k out (starts-enough starts room) (r .refused nonzero)
+
+    cell-before : s .number ≡ 0 → k < s .cells
+        → (cutsCountOf cuts out ≡ cellAnswer w (length starts) given k out)
+        × (cutsArrayOf cuts out ≡ cellAfterwards w (length starts) given k out)
+    unfolding linesOf
+    cell-before complete before =
+        let last = finished-cell w (length starts) given k out (starts-enough starts room) (r .accepted complete) (rw length-rects before) in
+        let same = sym (cuts-here a s (r .traced complete) starts k before) in
+        (ap (λ (l : List CutNumbers). cutsCountOf l out) same ∙ last .0, ap (λ (l : List CutNumbers). cutsArrayOf l out) same ∙ last .1)
+
+    pub cell-finished : s .number ≡ 0 → (answer : Answer ℕ) (after : List ℕ)
+        → (answer ≡ cellCountOf (s .cells) k cuts out) × (after ≡ cellArrayOf (s .cells) k cuts out)
+        → (answer ≡ cellAnswer w (length starts) given k out) × (after ≡ cellAfterwards w (length starts) given k out)
+    cell-finished complete answer after told = go (leb (s .cells) k) refl where
+      go : (past : Bool) → leb (s .cells) k ≡ past
+          → (answer ≡ cellAnswer w (length starts) given k out) × (after ≡ cellAfterwards w (length starts) given k out)
+      go true e =
+          let last =
+          past-the-end w (length starts) given k out (starts-enough starts room) (r .accepted complete)
+          (rw length-rects (leb-true (s .cells) k e)) in
+          (rw e at (told .0) ∙ last .0, rw e at (told .1) ∙ last .1)
+      go false e = let last = cell-before complete (leb-false (s .cells) k e) in (rw e at (told .0) ∙ last .0, rw e at (told .1) ∙ last .1)

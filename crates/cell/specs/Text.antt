@@ -14,8 +14,13 @@ use Rattle.grid.specs.LayoutCall.{slotSpace}
 use Rattle.representation.specs.Arrays.{codeAt, rectsOf}
 use Rattle.representation.specs.Sheet.{Sheet}
 use Rattle.representation.specs.LayoutEntries.{Inside}
+use Rattle.reading.specs.Call.{SheetArrays}
 use Rattle.fragments.specs.declared.part.Piece.{Piece}
 use Rattle.cell.specs.declared.pieces.TextSize.{TextSize}
+
+-- how many bytes all cells have at most: 65,536 in each of 1,024
+abbrev pub mostText : ℕ
+mostText = 67108864
 
 -- a drawing's arrays, where each line's text starts, and the byte of each slot
 pub record Source : Type 0 where
@@ -27,6 +32,10 @@ pub record Source : Type 0 where
 
 abbrev pub source : List ℕ → List ℕ → List ℕ → List ℕ → List ℕ → Source
 source lengths columns text starts offsets = record { lengths = lengths; columns = columns; text = text; starts = starts; offsets = offsets }
+
+-- that of a drawing that was read
+abbrev pub sourceIn : SheetArrays → List ℕ → Source
+sourceIn a starts = source (a .lengths) (a .columns) (a .text) starts (a .offsets)
 
 -- what lies between two columns of line y, cut
 abbrev pub fragmentBetween : Source → ℕ → ℕ → ℕ → Fragment
@@ -49,7 +58,7 @@ abbrev pub allLines : Source → List Rect → List (List ℕ)
 allLines s rs = flatMap (keptLines s) rs
 
 -- a drawing within the limits, and where its lines start
-pub record Ready (s : Source) : Type 0 where
+pub record SourceReady (s : Source) : Type 0 where
   pub sheet : Sheet (s .lengths) (s .columns) (s .text)
   pub fewBytes : length (s .text) ≤ maxBytes
   pub startRoom : length (s .lengths) ≤ length (s .starts)
@@ -99,7 +108,8 @@ pub record Preparable (lengths columns text offsets rects : List ℕ) (n : ℕ) 
 
 -- and what was measured
 pub record Prepared (s : Source) (rs : List Rect) (counts : List ℕ) (size : TextSize) : Type 0 where
-  pub ready : Ready s
+  pub ready : SourceReady s
   pub lines : size .lines ≡ length (allLines s rs)
   pub bytes : size .bytes ≡ length (joinText (allLines s rs))
   pub counted : CountedBy (λ r. length (keptLines s r)) rs counts
+  pub fewBytes : size .bytes ≤ mostText

@@ -6,6 +6,7 @@ pub mod pieces;
 use crate::cuts::write_cuts;
 use crate::pieces::line_starts;
 use reading::read;
+use text::Column;
 ghost use mathlib.Core.Path.{_≡_};
 ghost use lib.ListN.{length};
 ghost use Rattle.grid.specs.LayoutCall.{spaces, drawing};
@@ -66,9 +67,9 @@ fn finish_cell(
         starts,
         offsets,
         top,
-        left,
+        Column(left),
         bottom,
-        right,
+        Column(right),
         out,
     );
     CellAnswer::Accepted(count)

@@ -1,7 +1,7 @@
 // The cut lines of cells: how many there are, and the lines themselves.
 use fragments::part::Piece;
 use fragments::part::cut_part;
-use representation::STRIDE;
+use slots::map::byte_at;
 use text::ByteAt;
 use text::Column;
 ghost use Prim.Native.Nat.{ℕ, _+_, _*_, _-_, _≤_, _<_};
@@ -12,7 +12,8 @@ ghost use Rattle.seq.specs.Lists.{sum};
 ghost use Rattle.grid.specs.Values.{Rect};
 ghost use Rattle.grid.specs.Flat.{joinText};
 ghost use Rattle.representation.specs.Arrays.{rectsOf};
-ghost use Rattle.cell.specs.Text.{source, cutBetween, keptLines, allLines, Ready, Cuttable, PieceOf, Framed, CountedBy, Preparable, Prepared};
+ghost use Rattle.cell.specs.Text.{mostText, source, cutBetween, keptLines, allLines};
+ghost use Rattle.cell.specs.Text.{SourceReady, Cuttable, PieceOf, Framed, CountedBy, Preparable, Prepared};
 
 // How many lines, and their bytes.
 pub struct TextSize {
@@ -42,22 +43,24 @@ pub fn piece_at(
     text: &[u8],
     starts: &[u16],
     offsets: &[u16],
-    left: usize,
-    right: usize,
+    left: Column,
+    right: Column,
     y: usize,
 ) -> Piece
-    requires { ⌜ Ready (source (now lengths) (now columns) (now text) (now starts) (now offsets)) ⌝ }
-    requires { ⌜ Cuttable (source (now lengths) (now columns) (now text) (now starts) (now offsets)) left right y ⌝ }
+    requires { ⌜ SourceReady (source (now lengths) (now columns) (now text) (now starts) (now offsets)) ⌝ }
+    requires { ⌜ Cuttable (source (now lengths) (now columns) (now text) (now starts) (now offsets)) (left .0) (right .0) y ⌝ }
     ensures { λ r.
         let sheet = source (now (lengths .entry)) (now (columns .entry)) (now (text .entry)) (now (starts .entry)) (now (offsets .entry)) in
-        ⌜ PieceOf sheet left right y r ⌝ }
+        ⌜ PieceOf sheet (left .0) (right .0) y r ⌝ }
 {
     let from = starts[y] as usize;
     let to = from + lengths[y] as usize;
     let line = &text[from..to];
-    let start = ByteAt(offsets[y * STRIDE + left] as usize + 1);
-    let end = ByteAt(offsets[y * STRIDE + right] as usize);
-    cut_part(line, Column(columns[y] as usize), start, end, Column(left))
+    let column = columns[y] as usize;
+    let border = byte_at(offsets, y, left);
+    let start = border.0 + 1;
+    let end = byte_at(offsets, y, right);
+    cut_part(line, Column(column), ByteAt(start), end, left)
 }
 
 // What lies between two columns of line y, cut.
@@ -67,15 +70,15 @@ pub fn cut_line<'a>(
     text: &'a [u8],
     starts: &[u16],
     offsets: &[u16],
-    left: usize,
-    right: usize,
+    left: Column,
+    right: Column,
     y: usize,
 ) -> &'a [u8]
-    requires { ⌜ Ready (source (now lengths) (now columns) (now text) (now starts) (now offsets)) ⌝ }
-    requires { ⌜ Cuttable (source (now lengths) (now columns) (now text) (now starts) (now offsets)) left right y ⌝ }
+    requires { ⌜ SourceReady (source (now lengths) (now columns) (now text) (now starts) (now offsets)) ⌝ }
+    requires { ⌜ Cuttable (source (now lengths) (now columns) (now text) (now starts) (now offsets)) (left .0) (right .0) y ⌝ }
     ensures { λ r.
         let sheet = source (now (lengths .entry)) (now (columns .entry)) (now (text .entry)) (now (starts .entry)) (now (offsets .entry)) in
-        ⌜ now r ≡ cutBetween sheet left right y ⌝ }
+        ⌜ now r ≡ cutBetween sheet (left .0) (right .0) y ⌝ }
 {
     let piece = piece_at(lengths, columns, text, starts, offsets, left, right, y);
     let first = piece.start;
@@ -94,17 +97,17 @@ pub fn measure_cell(
     starts: &[u16],
     offsets: &[u16],
     top: usize,
-    left: usize,
+    left: Column,
     bottom: usize,
-    right: usize,
+    right: Column,
 ) -> TextSize
-    requires { ⌜ Ready (source (now lengths) (now columns) (now text) (now starts) (now offsets)) ⌝ }
+    requires { ⌜ SourceReady (source (now lengths) (now columns) (now text) (now starts) (now offsets)) ⌝ }
     requires { let sheet = source (now lengths) (now columns) (now text) (now starts) (now offsets) in
-        let rect : Rect = record { top = top; left = left; bottom = bottom; right = right } in
+        let rect : Rect = record { top = top; left = left .0; bottom = bottom; right = right .0 } in
         ⌜ Framed sheet rect ⌝ }
     ensures { λ r.
         let sheet = source (now (lengths .entry)) (now (columns .entry)) (now (text .entry)) (now (starts .entry)) (now (offsets .entry)) in
-        let rect : Rect = record { top = top; left = left; bottom = bottom; right = right } in
+        let rect : Rect = record { top = top; left = left .0; bottom = bottom; right = right .0 } in
         ⌜ ((r .lines ≡ length (keptLines sheet rect)) × (r .lines < 128))
         × ((r .bytes ≡ sum (map length (keptLines sheet rect))) × (r .bytes ≤ 65536)) ⌝ }
 {
@@ -133,7 +136,7 @@ pub fn measure(
     n: usize,
     counts: &mut [u8],
 ) -> TextSize
-    requires { ⌜ Ready (source (now lengths) (now columns) (now text) (now starts) (now offsets)) ⌝ }
+    requires { ⌜ SourceReady (source (now lengths) (now columns) (now text) (now starts) (now offsets)) ⌝ }
     requires { ⌜ (n ≤ 1024) × (4 * n ≤ length (now rects)) × (n ≤ length (now counts)) ⌝ }
     requires { let sheet = source (now lengths) (now columns) (now text) (now starts) (now offsets) in
         let rs = rectsOf n (now rects) in
@@ -142,22 +145,26 @@ pub fn measure(
         let sheet = source (now (lengths .entry)) (now (columns .entry)) (now (text .entry)) (now (starts .entry)) (now (offsets .entry)) in
         let rs = rectsOf n (now (rects .entry)) in
         ⌜ (r .lines ≡ length (allLines sheet rs)) × (r .bytes ≡ length (joinText (allLines sheet rs)))
-        × CountedBy (λ r. length (keptLines sheet r)) rs (now (counts .exit)) ⌝ }
+        × CountedBy (λ r. length (keptLines sheet r)) rs (now (counts .exit)) × (r .bytes ≤ mostText) ⌝ }
 {
     let mut lines = 0;
     let mut bytes = 0;
     let mut k = 0;
     while k < n {
+        let top = rects[4 * k] as usize;
+        let left = rects[4 * k + 1] as usize;
+        let bottom = rects[4 * k + 2] as usize;
+        let right = rects[4 * k + 3] as usize;
         let size = measure_cell(
             lengths,
             columns,
             text,
             starts,
             offsets,
-            rects[4 * k] as usize,
-            rects[4 * k + 1] as usize,
-            rects[4 * k + 2] as usize,
-            rects[4 * k + 3] as usize,
+            top,
+            Column(left),
+            bottom,
+            Column(right),
         );
         counts[k] = size.lines as u8;
         lines += size.lines;

@@ -1,91 +1,83 @@
 -- The parts and the column and row lines that were found, of a traced drawing: what the layout and table calls write from.
 use Prim.Native.Nat.{ℕ, _-_, _≤_, _<_}
 use mathlib.Core.Path.{_≡_, ap}
-use mathlib.Core.List.{List, List·Memᴰ}
+use mathlib.Core.List.{List·Memᴰ}
 use native.Mathlib.Omega.{arith}
 use lib.ListN.{length}
 use Rattle.seq.specs.Lists.{orDefault}
-use Rattle.grid.specs.Answer.{accept}
 use Rattle.grid.specs.Values.{Rect}
 use Rattle.grid.specs.Slots.{gridOf}
 use Rattle.grid.specs.Layout.{firstOf, lastButOne, headEnd, footStart, columnLines, rowLines}
-use Rattle.grid.specs.Flat.{linesFrom}
-use Rattle.representation.specs.LayoutParts.{gridAnswer}
-use Rattle.representation.specs.Arrays.{rectsOf, Holds}
 use Rattle.slots.specs.Filling.{separatorLines}
 use Rattle.representation.specs.Edges.{Collected, rowLinesBelow, columnLinesBelow}
 use Rattle.representation.specs.LayoutEntries.{linesHeld, Rising, Numbered}
 use Rattle.representation.specs.declared.Bounds.{Bounds}
 use Rattle.representation.specs.declared.Parts.{Parts}
-use Rattle.representation.proofs.TracedLaws.{laid, tops-held, lefts-held, tops-rise, lefts-rise, tops-some, lefts-some, lefts-small, numbered}
-use Rattle.reading.specs.Call.{TracedSheet}
+use Rattle.representation.proofs.TracedLaws.{tops-held, lefts-held, tops-rise, lefts-rise, tops-some, lefts-some, lefts-small, numbered}
+use Rattle.reading.specs.Call.{SheetArrays, linesIn, rectsIn, TracedSheet}
 use Rattle.reading.specs.declared.Outcome.{Outcome}
-use Rattle.reading.proofs.SheetLaws.{accepted, held, count, tall, across, separated}
+use Rattle.reading.proofs.SheetLaws.{traced-accepted, traced-holds, traced-lines, traced-height, traced-width, traced-separators, traced-laid}
 
-module _ (lengths columns text glyphs offsets rects : List ℕ) (o : Outcome) (t : TracedSheet lengths columns text glyphs offsets rects o) where
-  answered : gridAnswer (gridOf (linesFrom lengths columns text)) ≡ accept (rectsOf (o .cells) rects)
-  answered = accepted lengths columns text glyphs offsets rects o t
+-- the parts that were found
+abbrev pub PartsFound : SheetArrays → Outcome → Parts → Type 0
+PartsFound a o p =
+    (p .head ≡ orDefault 0 (firstOf (separatorLines (o .separators))))
+    × (p .foot ≡ orDefault 128 (lastButOne (length (a .lengths) - 1) (separatorLines (o .separators))))
 
-  holding : Holds (gridOf (linesFrom lengths columns text) .rows) (gridOf (linesFrom lengths columns text) .width) glyphs offsets
-  holding = held lengths columns text glyphs offsets rects o t
+module _ {a : SheetArrays} {o : Outcome} (t : TracedSheet a o) where
+  module _ (p : Parts) (parts : PartsFound a o p) where
+    pub parts-head : p .head ≡ orDefault 0 (headEnd (gridOf (linesIn a)))
+    parts-head = rw (← traced-separators a o t) (parts .0)
 
-  -- the parts that were found
-  abbrev pub PartsFound : Parts → Type 0
-  PartsFound p = (p .head ≡ orDefault 0 (firstOf (separatorLines (o .separators)))) × (p .foot ≡ orDefault 128 (lastButOne (length lengths - 1) (separatorLines (o .separators))))
+    pub parts-foot : p .foot ≡ orDefault 128 (footStart (gridOf (linesIn a)))
+    parts-foot = rw (← traced-separators a o t, traced-height a o t) (parts .1)
 
-  module _ (p : Parts) (parts : PartsFound p) where
-    pub headed : p .head ≡ orDefault 0 (headEnd (gridOf (linesFrom lengths columns text)))
-    headed = rw (← separated lengths columns text glyphs offsets rects o t) (parts .0)
-
-    pub footed : p .foot ≡ orDefault 128 (footStart (gridOf (linesFrom lengths columns text)))
-    footed = rw (← separated lengths columns text glyphs offsets rects o t, tall lengths columns text glyphs offsets rects o t) (parts .1)
-
-    pub head-line : p .head < length lengths
-    head-line = omega (arith, headed, tall lengths columns text glyphs offsets rects o t, laid (linesFrom lengths columns text) (rectsOf (o .cells) rects) glyphs offsets answered holding .aligned)
+    pub parts-head-line : p .head < length (a .lengths)
+    parts-head-line = omega (arith, parts-head, traced-height a o t, traced-laid a o t .aligned)
 
   -- the lines that were collected
-  module _ (tops lefts : Bounds) (c : Collected (rowLinesBelow (length lengths) (rectsOf (o .cells) rects)) (length lengths) tops)
-      (d : Collected (columnLinesBelow (o .width) (rectsOf (o .cells) rects)) (o .width) lefts) where
-    pub c′ : Collected (rowLinesBelow (length (linesFrom lengths columns text)) (rectsOf (o .cells) rects)) (length (linesFrom lengths columns text)) tops
-    c′ = rw (count lengths columns text glyphs offsets rects o t) c
+  module _ {tops lefts : Bounds} (c : Collected (rowLinesBelow (length (a .lengths)) (rectsIn a (o .cells))) (length (a .lengths)) tops)
+      (d : Collected (columnLinesBelow (o .width .0) (rectsIn a (o .cells))) (o .width .0) lefts) where
+    down : Collected (rowLinesBelow (length (linesIn a)) (rectsIn a (o .cells))) (length (linesIn a)) tops
+    down = rw (traced-lines a o t) c
 
-    pub d′ : Collected (columnLinesBelow (gridOf (linesFrom lengths columns text) .width) (rectsOf (o .cells) rects)) (gridOf (linesFrom lengths columns text) .width) lefts
-    d′ = rw (across lengths columns text glyphs offsets rects o t) d
+    across : Collected (columnLinesBelow (gridOf (linesIn a) .width) (rectsIn a (o .cells))) (gridOf (linesIn a) .width) lefts
+    across = rw (traced-width a o t) d
 
-    pub low : length (linesFrom lengths columns text) ≤ 128
-    low = rw (count lengths columns text glyphs offsets rects o t) (t .sheet .fewLines)
+    low : length (linesIn a) ≤ 128
+    low = rw (traced-lines a o t) (t .sheet .fewLines)
 
-    pub narrow : gridOf (linesFrom lengths columns text) .width ≤ 128
-    narrow = rw (across lengths columns text glyphs offsets rects o t) (t .roomy .widthFits)
+    narrow : gridOf (linesIn a) .width ≤ 128
+    narrow = rw (traced-width a o t) (t .roomy .widthFits)
 
-    pub down-some : 1 ≤ tops .count
-    down-some = tops-some (linesFrom lengths columns text) (rectsOf (o .cells) rects) glyphs offsets answered holding low narrow tops lefts c′ d′
+    pub tops-found-some : 1 ≤ tops .count
+    tops-found-some = tops-some _ _ _ _ (traced-accepted a o t) (traced-holds a o t) low narrow _ _ down across
 
-    pub across-some : 1 ≤ lefts .count
-    across-some = lefts-some (linesFrom lengths columns text) (rectsOf (o .cells) rects) glyphs offsets answered holding low narrow tops lefts c′ d′
+    pub lefts-found-some : 1 ≤ lefts .count
+    lefts-found-some = lefts-some _ _ _ _ (traced-accepted a o t) (traced-holds a o t) low narrow _ _ down across
 
-    pub downs : linesHeld tops ≡ rowLines (gridOf (linesFrom lengths columns text)) (rectsOf (o .cells) rects)
-    downs = tops-held (linesFrom lengths columns text) (rectsOf (o .cells) rects) glyphs offsets answered holding low narrow tops lefts c′ d′
+    pub tops-found : linesHeld tops ≡ rowLines (gridOf (linesIn a)) (rectsIn a (o .cells))
+    tops-found = tops-held _ _ _ _ (traced-accepted a o t) (traced-holds a o t) low narrow _ _ down across
 
-    pub acrosses : linesHeld lefts ≡ columnLines (gridOf (linesFrom lengths columns text)) (rectsOf (o .cells) rects)
-    acrosses = lefts-held (linesFrom lengths columns text) (rectsOf (o .cells) rects) glyphs offsets answered holding low narrow tops lefts c′ d′
+    pub lefts-found : linesHeld lefts ≡ columnLines (gridOf (linesIn a)) (rectsIn a (o .cells))
+    lefts-found = lefts-held _ _ _ _ (traced-accepted a o t) (traced-holds a o t) low narrow _ _ down across
 
-    pub across-told : lefts .count - 1 ≡ length (columnLines (gridOf (linesFrom lengths columns text)) (rectsOf (o .cells) rects)) - 1
-    unfolding columnLines
-    across-told = ap (λ n. n - 1) (d′ .counted)
-
-    pub down-told : tops .count - 1 ≡ length (rowLines (gridOf (linesFrom lengths columns text)) (rectsOf (o .cells) rects)) - 1
+    pub tops-found-count : tops .count - 1 ≡ length (rowLines (gridOf (linesIn a)) (rectsIn a (o .cells))) - 1
     unfolding rowLines gridOf
-    down-told = ap (λ n. n - 1) (c′ .counted)
+    tops-found-count = ap (λ n. n - 1) (down .counted)
 
-    pub rows-rise : Rising tops
-    rows-rise = tops-rise (linesFrom lengths columns text) (rectsOf (o .cells) rects) glyphs offsets answered holding low narrow tops lefts c′ d′
+    pub lefts-found-count : lefts .count - 1 ≡ length (columnLines (gridOf (linesIn a)) (rectsIn a (o .cells))) - 1
+    unfolding columnLines
+    lefts-found-count = ap (λ n. n - 1) (across .counted)
 
-    pub columns-rise : Rising lefts
-    columns-rise = lefts-rise (linesFrom lengths columns text) (rectsOf (o .cells) rects) glyphs offsets answered holding low narrow tops lefts c′ d′
+    pub tops-found-rise : Rising tops
+    tops-found-rise = tops-rise _ _ _ _ (traced-accepted a o t) (traced-holds a o t) low narrow _ _ down across
 
-    pub columns-small : (x : ℕ) → List·Memᴰ x (linesHeld lefts) → x < 128
-    columns-small = lefts-small (linesFrom lengths columns text) (rectsOf (o .cells) rects) glyphs offsets answered holding low narrow tops lefts c′ d′
+    pub lefts-found-rise : Rising lefts
+    lefts-found-rise = lefts-rise _ _ _ _ (traced-accepted a o t) (traced-holds a o t) low narrow _ _ down across
 
-    pub all-numbered : (r : Rect) → List·Memᴰ r (rectsOf (o .cells) rects) → Numbered tops lefts r
-    all-numbered = numbered (linesFrom lengths columns text) (rectsOf (o .cells) rects) glyphs offsets answered holding low narrow tops lefts c′ d′
+    pub lefts-found-small : (x : ℕ) → List·Memᴰ x (linesHeld lefts) → x < 128
+    lefts-found-small = lefts-small _ _ _ _ (traced-accepted a o t) (traced-holds a o t) low narrow _ _ down across
+
+    pub rects-found-numbered : (r : Rect) → List·Memᴰ r (rectsIn a (o .cells)) → Numbered tops lefts r
+    rects-found-numbered = numbered _ _ _ _ (traced-accepted a o t) (traced-holds a o t) low narrow _ _ down across

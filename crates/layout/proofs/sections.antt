@@ -1,2 +1,2 @@
--- Laws of sections and alignments.
+-- Laws of sections.
 pub mod PartLaws

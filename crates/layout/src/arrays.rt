@@ -5,15 +5,12 @@ use crate::range_entries::write_ranges;
 use crate::row_entries::write_rows;
 use representation::Bounds;
 use representation::Parts;
-ghost use Prim.Native.Nat.{ℕ, _*_, _-_, _≤_, _<_};
 ghost use mathlib.Core.Path.{_≡_};
-ghost use mathlib.Core.List.{List·Memᴰ};
-ghost use lib.ListN.{length};
 ghost use Rattle.grid.specs.Answer.{over};
-ghost use Rattle.grid.specs.Values.{Rect};
-ghost use Rattle.grid.specs.LayoutCall.{slotSpace};
-ghost use Rattle.representation.specs.Arrays.{codeAt, rectsOf};
-ghost use Rattle.representation.specs.LayoutEntries.{linesHeld, Rising, columnEntries, rowEntries, cellEntries, allRanges, Numbered};
+ghost use Rattle.representation.specs.Arrays.{rectsOf};
+ghost use Rattle.representation.specs.LayoutEntries.{linesHeld, columnEntries, rowEntries, cellEntries, allRanges};
+ghost use Rattle.layout.specs.Call.{arrays};
+ghost use Rattle.layout.specs.Written.{Writable};
 
 // Writes the four arrays.
 pub fn write_layout(
@@ -30,16 +27,8 @@ pub fn write_layout(
     cells: &mut [u16],
     ranges: &mut [u16],
 )
-    requires { ⌜ (n ≤ 1024) × (4 * n ≤ length (now rects)) × (slotSpace ≤ length (now glyphs)) × (slotSpace ≤ length (now offsets)) ⌝ }
-    requires { ⌜ Rising tops × Rising lefts × (1 ≤ tops .count) × (1 ≤ lefts .count) × (parts .head < 128) ⌝ }
-    requires { ⌜ ((x : ℕ) → List·Memᴰ x (linesHeld lefts) → x < 128) ⌝ }
-    requires { ⌜ (length (tops .index) ≡ 128) × (length (lefts .index) ≡ 128) ⌝ }
-    requires { ⌜ ((r : Rect) → List·Memᴰ r (rectsOf n (now rects)) → Numbered tops lefts r) ⌝ }
-    requires { let rs = rectsOf n (now rects) in
-        ⌜ ((r : Rect) → List·Memᴰ r rs → (y : ℕ) → r .top < y → y < r .bottom → codeAt (now offsets) y (r .left) < 512) ⌝ }
-    requires { let rs = rectsOf n (now rects) in
-        ⌜ (2 * (lefts .count - 1) ≤ length (now cols)) × (3 * (tops .count - 1) ≤ length (now rows))
-        × (5 * n ≤ length (now cells)) × (length (allRanges (now offsets) rs) ≤ length (now ranges)) ⌝ }
+    requires { let out = arrays (now cols) (now rows) (now cells) (now ranges) in
+        ⌜ Writable (now rects) (now glyphs) (now offsets) n tops lefts parts out ⌝ }
     ensures { λ _.
         let rs = rectsOf n (now (rects .entry)) in
         let entries = columnEntries (now (glyphs .entry)) (now (offsets .entry)) (now (line .entry)) (parts .head) (linesHeld lefts) in

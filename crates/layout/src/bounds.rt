@@ -1,5 +1,6 @@
 // The column and row lines of a drawing, from the edges of its rectangles.
 use representation::Bounds;
+use text::Column;
 ghost use Prim.Native.Nat.{ℕ, _*_, _≤_, _<_};
 ghost use mathlib.Core.Path.{_≡_};
 ghost use lib.ListN.{length, getD};
@@ -57,10 +58,10 @@ pub fn row_bounds(rects: &[u8], n: usize, height: usize) -> Bounds
     collect(edges(rects, n, 0), height)
 }
 
-pub fn col_bounds(rects: &[u8], n: usize, width: usize) -> Bounds
-    requires { ⌜ (n ≤ 1024) × (4 * n ≤ length (now rects)) × (width ≤ 128) ⌝ }
+pub fn col_bounds(rects: &[u8], n: usize, width: Column) -> Bounds
+    requires { ⌜ (n ≤ 1024) × (4 * n ≤ length (now rects)) × (width .0 ≤ 128) ⌝ }
     requires { ⌜ ((i : ℕ) → i < 4 * n → getD (now rects) i 0 < 128) ⌝ }
-    ensures { λ r. ⌜ Collected (columnLinesBelow width (rectsOf n (now (rects .entry)))) width r ⌝ }
+    ensures { λ r. ⌜ Collected (columnLinesBelow (width .0) (rectsOf n (now (rects .entry)))) (width .0) r ⌝ }
 {
-    collect(edges(rects, n, 1), width)
+    collect(edges(rects, n, 1), width.0)
 }

@@ -1,6 +1,7 @@
 // The entries of columns, from the lines between which they lie.
-use crate::sections::alignment;
+use crate::alignments::alignment;
 use representation::Bounds;
+use text::Column;
 ghost use Prim.Native.Nat.{ℕ, _+_, _*_, _-_, _≤_, _<_};
 ghost use mathlib.Core.Path.{_≡_};
 ghost use mathlib.Core.List.{List·Memᴰ};
@@ -29,7 +30,7 @@ pub fn write_columns(
     while k + 1 < columns.count {
         let from = columns.lines[k] as usize;
         let to = columns.lines[k + 1] as usize;
-        out[2 * k] = alignment(glyphs, offsets, line, a, from);
+        out[2 * k] = alignment(glyphs, offsets, line, a, Column(from));
         out[2 * k + 1] = (to - from - 1) as u16;
         k += 1;
     }

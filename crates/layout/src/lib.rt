@@ -8,6 +8,7 @@
 // is width 9, 2 columns, 1 row, 2 cells and 2 ranges; written are the columns 0 3, 0 3 (alignment,
 // width), the row 1 0 2 (section, top, bottom), the cells 0 0 1 1 0, 0 1 1 1 4 (row, column,
 // colspan, rowspan, left) and the ranges 1 4, 5 8 (start, end; one for each inner line of a cell).
+pub mod alignments;
 pub mod arrays;
 pub mod bounds;
 pub mod cell_entries;
@@ -28,7 +29,7 @@ ghost use Rattle.grid.specs.Flat.{linesFrom};
 ghost use Rattle.grid.specs.LayoutCall.{layoutAnswer, layoutAfterwards, spaces, drawing};
 ghost use Rattle.representation.specs.LayoutParts.{finishSizes, finishArrays};
 ghost use Rattle.representation.specs.Arrays.{rectsOf};
-ghost use Rattle.reading.specs.Call.{TracedSheet};
+ghost use Rattle.reading.specs.Call.{sheetOf, TracedSheet};
 ghost use Rattle.layout.specs.Call.{answerOf, arrays};
 
 // The width of the drawing and how many columns, rows, cells and ranges were written; or a refusal.
@@ -60,7 +61,7 @@ fn finish(
     cells: &mut [u16],
     ranges: &mut [u16],
 ) -> LayoutAnswer
-    requires { ⌜ TracedSheet (now lengths) (now columns) (now text) (now glyphs) (now offsets) (now rects) outcome ⌝ }
+    requires { ⌜ TracedSheet (sheetOf (now lengths) (now columns) (now text) (now glyphs) (now offsets) (now rects)) outcome ⌝ }
     ensures { λ r.
         let before = arrays (now (cols .entry)) (now (rows .entry)) (now (cells .entry)) (now (ranges .entry)) in
         let after = arrays (now (cols .exit)) (now (rows .exit)) (now (cells .exit)) (now (ranges .exit)) in
@@ -106,7 +107,7 @@ fn finish(
         ranges,
     );
     LayoutAnswer::Accepted {
-        width,
+        width: width.0,
         columns: sizes.columns,
         rows: sizes.rows,
         cells: sizes.cells,

@@ -1,5 +1,6 @@
 // The entries of ranges, one range for each inner line of each cell.
-use representation::STRIDE;
+use slots::map::byte_at;
+use text::Column;
 ghost use Prim.Native.Nat.{ℕ, _+_, _*_, _-_, _≤_, _<_};
 ghost use mathlib.Core.Path.{_≡_};
 ghost use mathlib.Core.List.{_++_, List·Memᴰ, map};
@@ -15,25 +16,25 @@ ghost use Rattle.representation.specs.LayoutEntries.{rangeEntries, allRanges, I
 pub fn write_ranges_of(
     offsets: &[u16],
     top: usize,
-    left: usize,
+    left: Column,
     bottom: usize,
-    right: usize,
+    right: Column,
     at: usize,
     out: &mut [u16],
 )
-    requires { ⌜ (top < bottom) × (bottom < 128) × (left < 128) × (right < 128) × (slotSpace ≤ length (now offsets)) ⌝ }
+    requires { ⌜ (top < bottom) × (bottom < 128) × (left .0 < 128) × (right .0 < 128) × (slotSpace ≤ length (now offsets)) ⌝ }
     requires { ⌜ at + 2 * (bottom - top - 1) ≤ length (now out) ⌝ }
-    requires { ⌜ ((y : ℕ) → top < y → y < bottom → codeAt (now offsets) y left < 512) ⌝ }
+    requires { ⌜ ((y : ℕ) → top < y → y < bottom → codeAt (now offsets) y (left .0) < 512) ⌝ }
     ensures { λ _.
-        let rect : Rect = record { top = top; left = left; bottom = bottom; right = right } in
+        let rect : Rect = record { top = top; left = left .0; bottom = bottom; right = right .0 } in
         ⌜ now (out .exit)
         ≡ take at (now (out .entry)) ++ rangeEntries (now (offsets .entry)) rect ++ drop (at + 2 * (bottom - top - 1)) (now (out .entry)) ⌝ }
 {
     let mut y = top + 1;
     let mut i = at;
     while y < bottom {
-        out[i] = offsets[y * STRIDE + left] + 1;
-        out[i + 1] = offsets[y * STRIDE + right];
+        out[i] = byte_at(offsets, y, left).0 as u16 + 1;
+        out[i + 1] = byte_at(offsets, y, right).0 as u16;
         i += 2;
         y += 1;
     }
@@ -52,16 +53,10 @@ pub fn write_ranges(rects: &[u8], n: usize, offsets: &[u16], out: &mut [u16])
     let mut at = 0;
     while k < n {
         let top = rects[4 * k] as usize;
+        let left = rects[4 * k + 1] as usize;
         let bottom = rects[4 * k + 2] as usize;
-        write_ranges_of(
-            offsets,
-            top,
-            rects[4 * k + 1] as usize,
-            bottom,
-            rects[4 * k + 3] as usize,
-            at,
-            out,
-        );
+        let right = rects[4 * k + 3] as usize;
+        write_ranges_of(offsets, top, Column(left), bottom, Column(right), at, out);
         at += 2 * (bottom - top - 1);
         k += 1;
     }

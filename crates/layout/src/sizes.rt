@@ -3,6 +3,7 @@ use crate::bounds::col_bounds;
 use crate::bounds::row_bounds;
 use crate::range_entries::count_ranges;
 use representation::Bounds;
+use text::Column;
 ghost use Rattle.layout.specs.Sized.{Measurable, Sized};
 
 // How many columns, rows, cells and ranges; short where an array has too little room for them.
@@ -21,14 +22,14 @@ pub fn measure(
     rects: &[u8],
     n: usize,
     height: usize,
-    width: usize,
+    width: Column,
     cols: usize,
     rows: usize,
     cells: usize,
     ranges: usize,
 ) -> Sizes
-    requires { ⌜ Measurable height width n (now rects) ⌝ }
-    ensures { λ r. ⌜ Sized height width n (now (rects .entry)) cols rows cells ranges r ⌝ }
+    requires { ⌜ Measurable height (width .0) n (now rects) ⌝ }
+    ensures { λ r. ⌜ Sized height (width .0) n (now (rects .entry)) cols rows cells ranges r ⌝ }
 {
     let tops = row_bounds(rects, n, height);
     let lefts = col_bounds(rects, n, width);

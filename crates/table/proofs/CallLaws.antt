@@ -9,43 +9,46 @@ use borrow.Author.Tests.{ltb-false}
 use Rattle.seq.proofs.Tests.{or-neither}
 use Rattle.grid.specs.Limits.{maxLines, maxCells}
 use Rattle.grid.specs.Answer.{Answer, refuse}
-use Rattle.grid.specs.Flat.{FlatDrawing, TableSizes, TableArrays, linesFrom, linesOf}
+use Rattle.grid.specs.Flat.{FlatDrawing, TableSizes, TableArrays, linesOf}
 use Rattle.grid.specs.LayoutCall.{LayoutSpace, drawing}
 use Rattle.representation.specs.LayoutParts.{rectsAnswer}
-use Rattle.representation.specs.Arrays.{rectsOf}
-use Rattle.grid.specs.TableCall.{startsShort, tableSpaceShort, tableAnswer, tableAfterwards, tableSpaces}
+use Rattle.grid.specs.TableCall.{TableSpace, startsShort, tableSpaceShort, tableAnswer, tableAfterwards, tableSpaces}
 use Rattle.representation.specs.TableParts.{tableSizesOf, tableArraysOf}
 use Rattle.representation.proofs.TablePartsLaws.{short-table, refused-table, finished-table}
-use Rattle.reading.specs.Call.{Reading}
+use Rattle.reading.specs.Call.{SheetArrays, linesIn, rectsIn, Reading}
 use Rattle.reading.specs.declared.Outcome.{Outcome}
 
 -- room for the starts and the counts
 module _ (starts counts : List ℕ) where
-  pub short-told : {b : Bool} → ltb (length starts) maxLines || ltb (length counts) maxCells ≡ b → tableSpaceShort (tableSpaces starts counts) ≡ b
+  tableSpaceShort-told : {b : Bool} → ltb (length starts) maxLines || ltb (length counts) maxCells ≡ b → tableSpaceShort (tableSpaces starts counts) ≡ b
   unfolding tableSpaceShort startsShort
-  short-told e = e
+  tableSpaceShort-told e = e
 
-  pub rooms : ltb (length starts) maxLines || ltb (length counts) maxCells ≡ false → (maxLines ≤ length starts) × (maxCells ≤ length counts)
-  rooms e =
+  pub tableSpaces-enough : ltb (length starts) maxLines || ltb (length counts) maxCells ≡ false → (maxLines ≤ length starts) × (maxCells ≤ length counts)
+  tableSpaces-enough e =
       let f = or-neither (ltb (length starts) maxLines) (ltb (length counts) maxCells) e in
       (ltb-false (length starts) maxLines (f .0), ltb-false (length counts) maxCells (f .1))
 
-module _ (w : LayoutSpace) (starts counts : List ℕ) (enough : ltb (length starts) maxLines || ltb (length counts) maxCells ≡ false) (lines bytes : ℕ)
-    (lengths columns text glyphs offsets rects : List ℕ) (out : TableArrays) (s : Outcome)
-    (r : Reading (rectsAnswer w (drawing lines bytes lengths columns text)) lengths columns text glyphs offsets rects s) where
-  pub refused-read : (s .number ≡ 0 → ⊥)
-      → (refuse (s .number) (s .place) ≡ tableAnswer w (tableSpaces starts counts) (drawing lines bytes lengths columns text) out)
-      × (out ≡ tableAfterwards w (tableSpaces starts counts) (drawing lines bytes lengths columns text) out)
-  refused-read nonzero = refused-table w (tableSpaces starts counts) (drawing lines bytes lengths columns text) out (short-told starts counts enough) (r .refused nonzero)
-
-  pub finished-read : s .number ≡ 0 → (a : Answer TableSizes) (after : TableArrays)
-      → (a ≡ tableSizesOf (linesFrom lengths columns text) (rectsOf (s .cells) rects) out) × (after ≡ tableArraysOf (linesFrom lengths columns text) (rectsOf (s .cells) rects) out)
-      → (a ≡ tableAnswer w (tableSpaces starts counts) (drawing lines bytes lengths columns text) out) × (after ≡ tableAfterwards w (tableSpaces starts counts) (drawing lines bytes lengths columns text) out)
-  unfolding linesOf
-  finished-read complete a after (answer, arrays) =
-      let last = finished-table w (tableSpaces starts counts) (drawing lines bytes lengths columns text) out (short-told starts counts enough) (r .accepted complete) in
-      (answer ∙ last .0, arrays ∙ last .1)
-
-pub refused-space : (w : LayoutSpace) (starts counts : List ℕ) (d : FlatDrawing) (out : TableArrays) → ltb (length starts) maxLines || ltb (length counts) maxCells ≡ true
+-- ---- the returns of the call
+pub table-no-space : (w : LayoutSpace) (starts counts : List ℕ) (d : FlatDrawing) (out : TableArrays) → ltb (length starts) maxLines || ltb (length counts) maxCells ≡ true
     → (refuse 13 0 ≡ tableAnswer w (tableSpaces starts counts) d out) × (out ≡ tableAfterwards w (tableSpaces starts counts) d out)
-refused-space w starts counts d out short = short-table w (tableSpaces starts counts) d out (short-told starts counts short)
+table-no-space w starts counts d out short = short-table w (tableSpaces starts counts) d out (tableSpaceShort-told starts counts short)
+
+module _ (w : LayoutSpace) (starts counts : List ℕ) (enough : ltb (length starts) maxLines || ltb (length counts) maxCells ≡ false) (lines bytes : ℕ) (a : SheetArrays) where
+  abbrev more : TableSpace
+  more = tableSpaces starts counts
+
+  abbrev given : FlatDrawing
+  given = drawing lines bytes (a .lengths) (a .columns) (a .text)
+
+  module _ (out : TableArrays) (s : Outcome) (r : Reading (rectsAnswer w given) a s) where
+    pub table-refused : (s .number ≡ 0 → ⊥) → (refuse (s .number) (s .place) ≡ tableAnswer w more given out) × (out ≡ tableAfterwards w more given out)
+    table-refused nonzero = refused-table w more given out (tableSpaceShort-told starts counts enough) (r .refused nonzero)
+
+    pub table-finished : s .number ≡ 0 → (answer : Answer TableSizes) (after : TableArrays)
+        → (answer ≡ tableSizesOf (linesIn a) (rectsIn a (s .cells)) out) × (after ≡ tableArraysOf (linesIn a) (rectsIn a (s .cells)) out)
+        → (answer ≡ tableAnswer w more given out) × (after ≡ tableAfterwards w more given out)
+    unfolding linesOf
+    table-finished complete answer after (answered, written) =
+        let last = finished-table w more given out (tableSpaceShort-told starts counts enough) (r .accepted complete) in
+        (answered ∙ last .0, written ∙ last .1)

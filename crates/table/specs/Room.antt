@@ -3,6 +3,6 @@ use Prim.Native.Nat.{ℕ, _*_}
 use mathlib.Core.Bool.{Bool, _||_}
 use lib.Dec.{ltb}
 
-abbrev pub tooShort : (cols sections cells lengths text across down n lines bytes : ℕ) → Bool
-tooShort cols sections cells lengths text across down n lines bytes =
+abbrev pub tableTooShort : (cols sections cells lengths text across down n lines bytes : ℕ) → Bool
+tableTooShort cols sections cells lengths text across down n lines bytes =
     ltb cols (2 * across) || ltb sections down || ltb cells (5 * n) || ltb lengths lines || ltb text bytes

@@ -20,12 +20,11 @@ use representation::Bounds;
 ghost use Prim.Native.Nat.{_≤_};
 ghost use mathlib.Core.Path.{_≡_};
 ghost use lib.ListN.{length};
-ghost use Rattle.grid.specs.Flat.{linesFrom, tableArrays};
+ghost use Rattle.grid.specs.Flat.{tableArrays};
 ghost use Rattle.grid.specs.Limits.{maxLines, maxCells};
 ghost use Rattle.grid.specs.TableCall.{tableOver, tableAnswer, tableAfterwards, tableSpaces};
 ghost use Rattle.representation.specs.TableParts.{tableFrom, tableSizesOf, tableArraysOf};
-ghost use Rattle.representation.specs.Arrays.{rectsOf};
-ghost use Rattle.reading.specs.Call.{TracedSheet};
+ghost use Rattle.reading.specs.Call.{sheetOf, linesIn, rectsIn, TracedSheet};
 ghost use Rattle.grid.specs.LayoutCall.{spaces, drawing};
 ghost use Rattle.table.specs.Needs.{Writable};
 ghost use Rattle.table.specs.Call.{answerOf, arrays};
@@ -68,14 +67,15 @@ fn write_table(
     out_lengths: &mut [u16],
     out_text: &mut [u8],
 )
-    requires { let out = arrays (now cols) (now sections) (now cells) (now «out_lengths») (now «out_text») in
-        ⌜ Writable (now lengths) (now columns) (now text) (now glyphs) (now offsets) (now rects) outcome (now starts) (now counts) tops lefts out ⌝ }
+    requires { let sheet = sheetOf (now lengths) (now columns) (now text) (now glyphs) (now offsets) (now rects) in
+        let out = arrays (now cols) (now sections) (now cells) (now «out_lengths») (now «out_text») in
+        ⌜ Writable sheet outcome (now starts) (now counts) tops lefts out ⌝ }
     ensures { λ _.
         let before = arrays (now (cols .entry)) (now (sections .entry)) (now (cells .entry)) (now («out_lengths» .entry)) (now («out_text» .entry)) in
         let after = arrays (now (cols .exit)) (now (sections .exit)) (now (cells .exit)) (now («out_lengths» .exit)) (now («out_text» .exit)) in
-        let rs = rectsOf (outcome .cells) (now (rects .entry)) in
-        let drawn = linesFrom (now (lengths .entry)) (now (columns .entry)) (now (text .entry)) in
-        ⌜ after ≡ tableOver (tableArrays (tableFrom drawn rs)) before ⌝ }
+        let sheet =
+        sheetOf (now (lengths .entry)) (now (columns .entry)) (now (text .entry)) (now (glyphs .entry)) (now (offsets .entry)) (now (rects .entry)) in
+        ⌜ after ≡ tableOver (tableArrays (tableFrom (linesIn sheet) (rectsIn sheet (outcome .cells)))) before ⌝ }
 {
     let height = lengths.len();
     let n = outcome.cells;
@@ -118,14 +118,15 @@ fn finish(
     out_lengths: &mut [u16],
     out_text: &mut [u8],
 ) -> TableAnswer
-    requires { ⌜ TracedSheet (now lengths) (now columns) (now text) (now glyphs) (now offsets) (now rects) outcome ⌝ }
+    requires { ⌜ TracedSheet (sheetOf (now lengths) (now columns) (now text) (now glyphs) (now offsets) (now rects)) outcome ⌝ }
     requires { ⌜ (maxLines ≤ length (now starts)) × (maxCells ≤ length (now counts)) ⌝ }
     ensures { λ r.
         let before = arrays (now (cols .entry)) (now (sections .entry)) (now (cells .entry)) (now («out_lengths» .entry)) (now («out_text» .entry)) in
         let after = arrays (now (cols .exit)) (now (sections .exit)) (now (cells .exit)) (now («out_lengths» .exit)) (now («out_text» .exit)) in
-        let rs = rectsOf (outcome .cells) (now (rects .entry)) in
-        let drawn = linesFrom (now (lengths .entry)) (now (columns .entry)) (now (text .entry)) in
-        ⌜ (answerOf r ≡ tableSizesOf drawn rs before) × (after ≡ tableArraysOf drawn rs before) ⌝ }
+        let sheet =
+        sheetOf (now (lengths .entry)) (now (columns .entry)) (now (text .entry)) (now (glyphs .entry)) (now (offsets .entry)) (now (rects .entry)) in
+        ⌜ (answerOf r ≡ tableSizesOf (linesIn sheet) (rectsIn sheet (outcome .cells)) before)
+        × (after ≡ tableArraysOf (linesIn sheet) (rectsIn sheet (outcome .cells)) before) ⌝ }
 {
     let n = outcome.cells;
     let tops = row_bounds(rects, n, lengths.len());

@@ -2,7 +2,7 @@
 use cell::pieces::TextSize;
 ghost use Prim.Native.Nat.{_≤_};
 ghost use mathlib.Core.Path.{_≡_};
-ghost use Rattle.table.specs.Room.{tooShort};
+ghost use Rattle.table.specs.Room.{tableTooShort};
 
 // 12: of the arrays' lengths one is too short for a table of these sizes.
 pub fn lacks_room(
@@ -17,7 +17,7 @@ pub fn lacks_room(
     size: TextSize,
 ) -> bool
     requires { ⌜ (across ≤ 128) × (n ≤ 1024) ⌝ }
-    ensures { λ r. ⌜ r ≡ tooShort cols sections cells lengths text across down n (size .lines) (size .bytes) ⌝ }
+    ensures { λ r. ⌜ r ≡ tableTooShort cols sections cells lengths text across down n (size .lines) (size .bytes) ⌝ }
 {
     (cols < 2 * across)
         | (sections < down)

@@ -40,22 +40,22 @@ module _ (s : Source) (top left bottom right : ℕ) (buffer : List ℕ) where
   abbrev rect : Rect
   rect = record { top = top; left = left; bottom = bottom; right = right }
 
-  pub no-cut : CutsWritten s top left bottom right buffer (top + 1) buffer
-  no-cut = let e : top + 1 - top - 1 ≡ 0 = omega arith in record { entries = rw e (none-written fourOf (cutsOf s rect) 0 buffer) }
+  pub cutsWritten-none : CutsWritten s top left bottom right buffer (top + 1) buffer
+  cutsWritten-none = let e : top + 1 - top - 1 ≡ 0 = omega arith in record { entries = rw e (none-written fourOf (cutsOf s rect) 0 buffer) }
 
   module _ (y : ℕ) (low : top < y) where
     module _ (framed : Framed s rect) (high : y < bottom) where
-      pub line-cuttable : Cuttable s left right y
-      line-cuttable = framed .borders y low high
+      pub framed-cuttable : Cuttable s left right y
+      framed-cuttable = framed .borders y low high
 
-      pub line-fits : Fits w16 y
-      line-fits = record { fits = omega (arith, framed .inside .tall) }
+      pub framed-line-fits : Fits w16 y
+      framed-line-fits = record { fits = omega (arith, framed .inside .tall) }
 
     module _ (out : List ℕ) (w : CutsWritten s top left bottom right buffer y out) where
-      pub cut-next : (i : ℕ) (p : Piece) → y < bottom → i ≡ 4 * (y - top - 1) → 4 * (bottom - top - 1) ≤ length buffer → PieceOf s left right y p
+      pub cutsWritten-next : (i : ℕ) (p : Piece) → y < bottom → i ≡ 4 * (y - top - 1) → 4 * (bottom - top - 1) ≤ length buffer → PieceOf s left right y p
           → CutsWritten s top left bottom right buffer (y + 1)
           (set (set (set (set out i y) (i + 1) (p .start .0)) (i + 2) (p .end .0)) (i + 3) (p .column .0))
-      cut-next i p high e room told =
+      cutsWritten-next i p high e room told =
           let two : i + 2 ≡ suc (suc i) = omega arith in
           let three : i + 3 ≡ suc (suc (suc i)) = omega arith in
           let k : y + 1 - top - 1 ≡ y - top - 1 + 1 = omega arith in
@@ -67,16 +67,16 @@ module _ (s : Source) (top left bottom right : ℕ) (buffer : List ℕ) where
           (rw (length-cuts s rect) (omega arith)) in
           record { entries = rw (k, three, two, add-one i, e) (rw (here, zero-add) at step) }
 
-      pub cuts-done : bottom ≤ y → out ≡ over (cutArray (cutsOf s rect)) buffer
-      cuts-done high = all-written fourOf (cutsOf s rect) 0 buffer out (y - top - 1) (rw (length-cuts s rect) (omega arith)) (w .entries) ∙ rw zero-add
+      pub cutsWritten-all : bottom ≤ y → out ≡ over (cutArray (cutsOf s rect)) buffer
+      cutsWritten-all high = all-written fourOf (cutsOf s rect) 0 buffer out (y - top - 1) (rw (length-cuts s rect) (omega arith)) (w .entries) ∙ rw zero-add
 
 -- the numbers of a piece are small
 module _ (s : Source) (left right y : ℕ) (p : Piece) (told : PieceOf s left right y p) where
-  pub start-fits : Fits w16 (p .start .0)
-  start-fits = record { fits = omega (arith, told .forward, told .shortEnd) }
+  pub piece-start-fits : Fits w16 (p .start .0)
+  piece-start-fits = record { fits = omega (arith, told .forward, told .shortEnd) }
 
-  pub end-fits : Fits w16 (p .end .0)
-  end-fits = record { fits = omega (arith, told .shortEnd) }
+  pub piece-end-fits : Fits w16 (p .end .0)
+  piece-end-fits = record { fits = omega (arith, told .shortEnd) }
 
-  pub column-fits : Fits w16 (p .column .0)
-  column-fits = record { fits = omega (arith, told .lowColumn) }
+  pub piece-column-fits : Fits w16 (p .column .0)
+  piece-column-fits = record { fits = omega (arith, told .lowColumn) }

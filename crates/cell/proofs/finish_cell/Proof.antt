@@ -2,12 +2,15 @@
 use mir.Facts.{fits-8-64}
 use native.Mathlib.Omega.{arith}
 use borrow.Author.Needs.{needs}
-use Rattle.cell.proofs.CellLaws.{past-cell, framed-cell, ordered, some-lines, entries-fit, ready-cell, refused-cuts, finished-cuts}
+use Rattle.cell.proofs.CellLaws.{cellCountOf-past, cutting-framed, cutting-ordered, cutting-some, cutting-fits, cutting-ready, cellCountOf-short, cellCountOf-written}
 use Rattle.cell.proofs.finish_cell.Statement.{statement}
 use Rattle.cell.proofs.finish_cell.Tie as tie
 
+abbrev entry : tie.Else1 → tie.Start
+entry c = search needs
+
 returns : tie.Need-returns
-returns c = let a = c .before .before .before .before .before .before .before .before .args in past-cell (a .n) (a .k) _ _ (omega arith)
+returns c = let start : tie.Start = search needs in cellCountOf-past (start .args .n) (start .args .k) _ _ (omega arith)
 
 mul-top : tie.Need-mul-top
 mul-top c = omega arith
@@ -55,31 +58,35 @@ cast-right : tie.Need-cast-right
 cast-right c = fits-8-64 (c .shared-slice-known9 .given _)
 
 sub-count : tie.Need-sub-count
-sub-count c = search ordered
+sub-count c = search cutting-ordered
 
 sub-count-2 : tie.Need-sub-count-2
-sub-count-2 c = search some-lines
+sub-count-2 c = search cutting-some
 
 mul-if2 : tie.Need-mul-if2
-mul-if2 c = search entries-fit
+mul-if2 c = search cutting-fits
 
 returns-2 : tie.Need-returns-2
-returns-2 c = refused-cuts _ _ _ _ _ _ _ _ (c .before .before .before .before .before .before .before .before .before .before .before .before .before .pre) (c .before .before .before .before .before .if1 .left) _ (c .if2 .taken)
+returns-2 c = let inside : tie.Else1 = search needs in cellCountOf-short _ _ _ _ _ _ _ _ (entry inside .pre) (inside .if1 .left) _ (c .if2 .taken)
 
 line-starts-requires : tie.Need-line-starts-requires
 line-starts-requires c κs = search needs
 
 write-cuts-requires : tie.Need-write-cuts-requires
-write-cuts-requires c κs = search (ready-cell, framed-cell)
+write-cuts-requires c κs = search (cutting-ready, cutting-framed)
 
 same-length : tie.Need-same-length
 same-length c = search needs
 
 same-length-2 : tie.Need-same-length-2
-same-length-2 c = c .before .before .write-cuts .kept .1 .1 .1 .1 .1 .1 .1 .1 .1 .0
+same-length-2 c = search needs
 
 returns-3 : tie.Need-returns-3
-returns-3 c = finished-cuts _ _ _ _ _ _ _ _ (c .before .before .before .before .before .before .before .before .before .before .before .before .before .before .before .before .before .before .before .before .before .before .pre) (c .before .before .before .before .before .before .before .before .before .before .before .before .before .before .if1 .left) _ (c .before .before .before .before .before .before .before .before .before .if2 .left) _ (c .before .before .write-cuts .ensures)
+returns-3 c =
+    let written : tie.After-write-cuts = search needs in
+    let roomy : tie.Else2 = search needs in
+    let inside : tie.Else1 = search needs in
+    cellCountOf-written _ _ _ _ _ _ _ _ (entry inside .pre) (inside .if1 .left) _ (roomy .if2 .left) _ (written .write-cuts .ensures)
 
 pub finish-cell-spec : {M : Type 1} → statement M
 finish-cell-spec =

@@ -12,11 +12,11 @@ use Rattle.seq.proofs.Gathered.{range-step}
 use Rattle.seq.proofs.Ranges.{length-range}
 use Rattle.grid.specs.Cut.{dropEmptyLast, beforeDropped}
 use Rattle.grid.specs.Flat.{linesFrom}
-use Rattle.grid.specs.Values.{noLine}
+use Rattle.grid.specs.Values.{Rect, noLine}
 use Rattle.representation.specs.Arrays.{codeAt}
 use Rattle.grid.proofs.CellLaws.{dropped-bytes}
 use Rattle.grid.proofs.CutLaws.{cut-shorter}
-use Rattle.cell.specs.Text.{source, cutBetween, keptLines, Ready, Cuttable, Framed}
+use Rattle.cell.specs.Text.{Source, cutBetween, keptLines, SourceReady, Cuttable, Framed}
 
 -- ---- empty last lines
 kept-empty : (l : List (List ℕ)) → dropEmptyLast (l ++ [] ∷ []) ≡ dropEmptyLast l
@@ -44,10 +44,13 @@ length-end : (l : List (List ℕ)) (t : List ℕ) → length (l ++ t ∷ []) ≡
 length-end [] t = refl
 length-end (u ∷ l) t = rw (length-end l t) (omega arith)
 
-module _ (lengths columns text starts offsets : List ℕ) (top left bottom right : ℕ) where
+module _ (s : Source) (top left bottom right : ℕ) where
+  abbrev rect : Rect
+  rect = record { top = top; left = left; bottom = bottom; right = right }
+
   -- the cut lines above line y
   abbrev above : ℕ → List (List ℕ)
-  above y = map (cutBetween (source lengths columns text starts offsets) left right) (range (top + 1) (y - top - 1))
+  above y = map (cutBetween s left right) (range (top + 1) (y - top - 1))
 
   pub record Measuring (lines bytes y : ℕ) : Type 0 where
     pub counted : lines ≡ length (dropEmptyLast (above y))
@@ -55,48 +58,48 @@ module _ (lengths columns text starts offsets : List ℕ) (top left bottom right
     pub fewLines : lines ≤ y - top - 1
     pub fewBytes : bytes ≤ 512 * (y - top - 1)
 
-  pub all-measured : (lines bytes y : ℕ) → Measuring lines bytes y → Framed (source lengths columns text starts offsets) (record { top = top; left = left; bottom = bottom; right = right }) → y ≤ bottom → bottom ≤ y
-      → ((lines ≡ length (keptLines (source lengths columns text starts offsets) (record { top = top; left = left; bottom = bottom; right = right }))) × (lines < 128))
-      × ((bytes ≡ sum (map length (keptLines (source lengths columns text starts offsets) (record { top = top; left = left; bottom = bottom; right = right })))) × (bytes ≤ 65536))
-  all-measured lines bytes y m framed below past =
+  pub measuring-all : (lines bytes y : ℕ) → Measuring lines bytes y → Framed s rect → y ≤ bottom → bottom ≤ y
+      → ((lines ≡ length (keptLines s rect)) × (lines < 128))
+      × ((bytes ≡ sum (map length (keptLines s rect))) × (bytes ≤ 65536))
+  measuring-all lines bytes y m framed below past =
       let done : y ≡ bottom = omega arith in (
         (rw done at (m .counted), omega (arith, m .fewLines, framed .inside .tall)),
         (rw done at (m .summed) ∙ sym (dropped-bytes (above bottom)), omega (arith, m .fewBytes, framed .inside .tall)),
       )
 
-  pub none-measured : Measuring 0 0 (top + 1)
+  pub measuring-none : Measuring 0 0 (top + 1)
   unfolding dropEmptyLast sum range
-  none-measured =
+  measuring-none =
       let none : top + 1 - top - 1 ≡ 0 = omega arith in
       record { counted = rw none; summed = rw none; fewLines = omega arith; fewBytes = omega arith }
 
-  module _ (framed : Framed (source lengths columns text starts offsets) (record { top = top; left = left; bottom = bottom; right = right })) where
-    pub line-cuttable : (y : ℕ) → top < y → y < bottom → Cuttable (source lengths columns text starts offsets) left right y
-    line-cuttable = framed .borders
+  module _ (framed : Framed s rect) where
+    pub framed-cuttable : (y : ℕ) → top < y → y < bottom → Cuttable s left right y
+    framed-cuttable = framed .borders
 
-    module _ (ready : Ready (source lengths columns text starts offsets)) (y : ℕ) (low : top < y) (high : y < bottom) (t : List ℕ)
-        (told : t ≡ cutBetween (source lengths columns text starts offsets) left right y) where
+    module _ (ready : SourceReady s) (y : ℕ) (low : top < y) (high : y < bottom) (t : List ℕ)
+        (told : t ≡ cutBetween s left right y) where
       pub short : length t ≤ 512
       short =
           rw told
           (let c = framed .borders y low high in
-          omega (arith, cut-shorter (getD (linesFrom lengths columns text) y noLine) y 0 (record { start = codeAt offsets y left + 1; end = codeAt offsets y right }) left, c .inside, ready .sheet .shortLines y))
+          omega (arith, cut-shorter (getD (linesFrom (s .lengths) (s .columns) (s .text)) y noLine) y 0 (record { start = codeAt (s .offsets) y left + 1; end = codeAt (s .offsets) y right }) left, c .inside, ready .sheet .shortLines y))
 
       next : above (y + 1) ≡ above y ++ t ∷ []
       next =
           let more : y + 1 - top - 1 ≡ y - top - 1 + 1 = omega arith in
           let here : top + 1 + (y - top - 1) ≡ y = omega arith in
-          rw (more, range-step (top + 1) (y - top - 1), map-end (cutBetween (source lengths columns text starts offsets) left right) (range (top + 1) (y - top - 1)) (top + 1 + (y - top - 1)), here, told)
+          rw (more, range-step (top + 1) (y - top - 1), map-end (cutBetween s left right) (range (top + 1) (y - top - 1)) (top + 1 + (y - top - 1)), here, told)
 
       module _ {lines bytes : ℕ} (m : Measuring lines bytes y) where
-        pub bytes-fit : Fits w64 (bytes + length t)
-        bytes-fit = fits-under w64 (bytes + length t) 131072 (omega (arith, m .fewBytes, short, framed .inside .tall)) tt
+        pub measuring-fits : Fits w64 (bytes + length t)
+        measuring-fits = fits-under w64 (bytes + length t) 131072 (omega (arith, m .fewBytes, short, framed .inside .tall)) tt
 
         summed-more : bytes + length t ≡ sum (map length (above (y + 1)))
         summed-more = rw (m .summed, next) (sym (sum-end (above y) t))
 
-        pub empty-measured : length t ≡ 0 → {lines′ : ℕ} → lines′ ≡ lines → Measuring lines′ (bytes + length t) (y + 1)
-        empty-measured none is =
+        pub measuring-empty : length t ≡ 0 → {lines′ : ℕ} → lines′ ≡ lines → Measuring lines′ (bytes + length t) (y + 1)
+        measuring-empty none is =
             record {
               counted = is ∙ m .counted ∙ rw (next, none-left t none) (ap length (sym (kept-empty (above y))));
               summed = summed-more;
@@ -107,10 +110,10 @@ module _ (lengths columns text starts offsets : List ℕ) (top left bottom right
               none-left [] e = refl
               none-left (b ∷ bs) e = absurd (omega arith)
 
-        pub filled-measured : (length t ≡ 0 → ⊥) → {lines′ : ℕ} → lines′ ≡ y - top → Measuring lines′ (bytes + length t) (y + 1)
-        filled-measured some is =
+        pub measuring-filled : (length t ≡ 0 → ⊥) → {lines′ : ℕ} → lines′ ≡ y - top → Measuring lines′ (bytes + length t) (y + 1)
+        measuring-filled some is =
             rw is (record {
-              counted = rw (next, kept-filled (above y) t some, length-end (above y) t, length-map (range (top + 1) (y - top - 1)) (cutBetween (source lengths columns text starts offsets) left right), length-range (top + 1) (y - top - 1)) (omega arith);
+              counted = rw (next, kept-filled (above y) t some, length-end (above y) t, length-map (range (top + 1) (y - top - 1)) (cutBetween s left right), length-range (top + 1) (y - top - 1)) (omega arith);
               summed = summed-more;
               fewLines = omega arith;
               fewBytes = omega (arith, m .fewBytes, short);

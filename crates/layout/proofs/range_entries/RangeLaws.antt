@@ -36,15 +36,15 @@ module _ (offsets : List ℕ) (top left bottom right at : ℕ) (buffer : List �
 
   module _ (y : ℕ) (out : List ℕ) (low : top < y) (w : RangesWritten offsets top left bottom right at buffer y out) where
     pub range-next : (i : ℕ) → y < bottom → i ≡ at + 2 * (y - top - 1) → at + 2 * (bottom - top - 1) ≤ length buffer
-        → RangesWritten offsets top left bottom right at buffer (y + 1)
-        (set (set out i (getD offsets (y * 128 + left) 0 + 1)) (i + 1) (getD offsets (y * 128 + right) 0))
-    range-next i high e room =
+        → (start end : ℕ) → start ≡ codeAt offsets y left → end ≡ codeAt offsets y right
+        → RangesWritten offsets top left bottom right at buffer (y + 1) (set (set out i (start + 1)) (i + 1) end)
+    range-next i high e room start end starts ends =
         let k : y + 1 - top - 1 ≡ y - top - 1 + 1 = omega arith in
         let here : getD (range (top + 1) (bottom - top - 1)) (y - top - 1) 0 ≡ y = getD-range (top + 1) (bottom - top - 1) (y - top - 1) 0 (omega arith) ∙ omega arith in
         let step =
         write-sets entry (range (top + 1) (bottom - top - 1)) at buffer out (y - top - 1) 0 (rw length-range (omega arith)) (w .entries) 2 (λ b. refl)
         (rw length-range room) in
-        record { entries = rw (k, add-one i, e) (rw here at step) }
+        record { entries = rw (k, add-one i, e, starts, ends) (rw here at step) }
 
     pub ranges-done : bottom ≤ y
         → out ≡ take at buffer ++ rangeEntries offsets (record { top = top; left = left; bottom = bottom; right = right }) ++ drop (at + 2 * (bottom - top - 1)) buffer
@@ -52,7 +52,7 @@ module _ (offsets : List ℕ) (top left bottom right at : ℕ) (buffer : List �
         all-written entry (range (top + 1) (bottom - top - 1)) at buffer out (y - top - 1) (rw length-range (omega arith)) (w .entries)
         ∙ rw (length-ranges offsets (record { top = top; left = left; bottom = bottom; right = right }))
 
--- a byte of a line and one more at most
-pub start-fits : (offsets : List ℕ) (top left bottom y more : ℕ) → ((y : ℕ) → top < y → y < bottom → codeAt offsets y left < 512) → top < y → y < bottom
-    → more ≤ 1 → Fits w16 (getD offsets (y * 128 + left) 0 + more)
-start-fits offsets top left bottom y more small low high one = record { fits = omega (arith, small y low high) }
+-- a byte and one more, of a line that is short
+pub start-fits : (offsets : List ℕ) (top left bottom y byte : ℕ) → byte ≡ codeAt offsets y left
+    → ((y : ℕ) → top < y → y < bottom → codeAt offsets y left < 512) → top < y → y < bottom → Fits w16 (byte + 1)
+start-fits offsets top left bottom y byte e small low high = record { fits = omega (arith, e, small y low high) }

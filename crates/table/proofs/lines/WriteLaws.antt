@@ -15,7 +15,7 @@ use Rattle.grid.specs.Flat.{joinText}
 use Rattle.representation.specs.Arrays.{rectsOf, rectIn}
 use Rattle.representation.proofs.RectsLaws.{length-rects, getD-rects}
 use Rattle.representation.proofs.HeldLaws.{noRect, rect-holds}
-use Rattle.cell.specs.Text.{Source, keptLines, allLines, Cuttable, Framed, CountedBy}
+use Rattle.cell.specs.Text.{Source, keptLines, allLines, Cuttable, Framed, CountedBy, mostText}
 use Rattle.cell.proofs.pieces.LineLaws.{kept-inner, kept-cuts}
 use Rattle.cell.proofs.pieces.TotalLaws.{counted-here}
 use Rattle.cell.proofs.lines.WriteLaws.{pieces}
@@ -31,6 +31,7 @@ pub record TextWritten (s : Source) (rects : List ℕ) (n : ℕ) (counts lengths
   pub counted : CountedBy (λ r. length (keptLines s r)) (rectsOf n rects) counts
   pub lineRoom : length (allLines s (rectsOf n rects)) ≤ length lengths
   pub byteRoom : length (joinText (allLines s (rectsOf n rects))) ≤ length text
+  pub fewBytes : length (joinText (allLines s (rectsOf n rects))) ≤ mostText
   pub few : line ≤ 128 * k
   pub linePlace : line ≡ length (flatMap (λ r. map length (keptLines s r)) (take k (rectsOf n rects)))
   pub bytePlace : byte ≡ length (flatMap (λ r. joinText (keptLines s r)) (take k (rectsOf n rects)))
@@ -52,14 +53,15 @@ module _ (s : Source) (rects : List ℕ) (n : ℕ) (counts lengths text : List �
 
   pub no-cell-lines : ((r : Rect) → List·Memᴰ r (rectsOf n rects) → Framed s r) → CountedBy (λ r. length (keptLines s r)) (rectsOf n rects) counts
       → length (allLines s (rectsOf n rects)) ≤ length lengths → length (joinText (allLines s (rectsOf n rects))) ≤ length text
-      → TextWritten s rects n counts lengths text 0 0 0 lengths text
+      → length (joinText (allLines s (rectsOf n rects))) ≤ mostText → TextWritten s rects n counts lengths text 0 0 0 lengths text
   unfolding flatMap
-  no-cell-lines framed counted lineRoom byteRoom =
+  no-cell-lines framed counted lineRoom byteRoom fewBytes =
       record {
         framed = framed;
         counted = counted;
         lineRoom = lineRoom;
         byteRoom = byteRoom;
+        fewBytes = fewBytes;
         few = omega arith;
         linePlace = refl;
         bytePlace = refl;
@@ -120,6 +122,9 @@ module _ (s : Source) (rects : List ℕ) (n : ℕ) (counts lengths text : List �
       pub cell-byte-room : byte + length (joinText cellPieces) ≤ length text′
       cell-byte-room = omega (arith, byte-place, first-shorter textOf (rectsOf n rects) (k + 1), w .byteRoom, ap length all-text, w .textWritten .kept)
 
+      pub cell-byte-few : byte + length (joinText cellPieces) ≤ mostText
+      cell-byte-few = omega (arith, byte-place, first-shorter textOf (rectsOf n rects) (k + 1), w .fewBytes, ap length all-text)
+
       pub cell-lines : (end : ℕ) (lengths″ text″ : List ℕ)
           → end ≡ byte + length (joinText cellPieces)
           → lengths″ ≡ take line lengths′ ++ map length cellPieces ++ drop (line + getD counts k 0) lengths′
@@ -131,6 +136,7 @@ module _ (s : Source) (rects : List ℕ) (n : ℕ) (counts lengths text : List �
             counted = w .counted;
             lineRoom = w .lineRoom;
             byteRoom = w .byteRoom;
+            fewBytes = w .fewBytes;
             few = count-small;
             linePlace = line-place;
             bytePlace = e ∙ byte-place;

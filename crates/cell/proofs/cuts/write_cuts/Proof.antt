@@ -5,13 +5,13 @@ use native.Mathlib.Omega.{arith}
 use lib.ListN.{length-set}
 use borrow.Author.Needs.{needs}
 use Rattle.cell.specs.Text.{source}
-use Rattle.cell.proofs.cuts.WriteLaws.{CutsWritten, no-cut, line-cuttable, line-fits, start-fits, end-fits, column-fits, cut-next, cuts-done}
+use Rattle.cell.proofs.cuts.WriteLaws.{CutsWritten, cutsWritten-none, framed-cuttable, framed-line-fits, piece-start-fits, piece-end-fits, piece-column-fits, cutsWritten-next, cutsWritten-all}
 use Rattle.cell.proofs.cuts.write_cuts.Statement.{statement}
 use Rattle.cell.proofs.cuts.write_cuts.Tie as tie
 
 abbrev Inv-loop : tie.InvT-loop
 Inv-loop lengths columns text starts offsets top left bottom right out₀ y₀ i₀ out y i =
-    (top < y) × (y ≤ bottom) × (i ≡ 4 * (y - top - 1)) × CutsWritten (source lengths columns text starts offsets) top left bottom right out₀ y out
+    (top < y) × (y ≤ bottom) × (i ≡ 4 * (y - top - 1)) × CutsWritten (source lengths columns text starts offsets) top (left .0) bottom (right .0) out₀ y out
 
 abbrev μ-loop : tie.MeasureT-loop
 μ-loop lengths columns text starts offsets top left bottom right out₀ y₀ i₀ out y i = bottom - y
@@ -20,13 +20,13 @@ add-y : tie.Need-add-y Inv-loop μ-loop
 add-y c = omega arith
 
 loop-holds : tie.Need-loop-holds Inv-loop μ-loop
-loop-holds c = search (needs, no-cut)
+loop-holds c = search (needs, cutsWritten-none)
 
 piece-at-requires : tie.Need-piece-at-requires Inv-loop μ-loop
-piece-at-requires c κs = search (needs, line-cuttable)
+piece-at-requires c κs = search (needs, framed-cuttable)
 
 cast-out : tie.Need-cast-out Inv-loop μ-loop
-cast-out c = search (needs, line-fits)
+cast-out c = search (needs, framed-line-fits)
 
 mul-out : tie.Need-mul-out Inv-loop μ-loop
 mul-out c = omega arith
@@ -35,7 +35,7 @@ slice-write-out : tie.Need-slice-write-out Inv-loop μ-loop
 slice-write-out c = omega arith
 
 cast-out-2 : tie.Need-cast-out-2 Inv-loop μ-loop
-cast-out-2 c = search (needs, start-fits)
+cast-out-2 c = search (needs, piece-start-fits)
 
 add-out : tie.Need-add-out Inv-loop μ-loop
 add-out c = omega arith
@@ -47,7 +47,7 @@ slice-write-out-2 : tie.Need-slice-write-out-2 Inv-loop μ-loop
 slice-write-out-2 c = simp length-set (omega arith)
 
 cast-out-3 : tie.Need-cast-out-3 Inv-loop μ-loop
-cast-out-3 c = search (needs, end-fits)
+cast-out-3 c = search (needs, piece-end-fits)
 
 add-out-2 : tie.Need-add-out-2 Inv-loop μ-loop
 add-out-2 c = omega arith
@@ -59,7 +59,7 @@ slice-write-out-3 : tie.Need-slice-write-out-3 Inv-loop μ-loop
 slice-write-out-3 c = simp length-set (omega arith)
 
 cast-out-4 : tie.Need-cast-out-4 Inv-loop μ-loop
-cast-out-4 c = search (needs, column-fits)
+cast-out-4 c = search (needs, piece-column-fits)
 
 add-out-3 : tie.Need-add-out-3 Inv-loop μ-loop
 add-out-3 c = omega arith
@@ -80,13 +80,13 @@ loop-less : tie.Need-loop-less Inv-loop μ-loop
 loop-less c = omega arith
 
 loop-again : tie.Need-loop-again Inv-loop μ-loop
-loop-again c = (omega arith, omega arith, omega arith, search cut-next)
+loop-again c = (omega arith, omega arith, omega arith, search cutsWritten-next)
 
 same-length : tie.Need-same-length Inv-loop μ-loop
 same-length c = search needs
 
 returns : tie.Need-returns Inv-loop μ-loop
-returns c = search (needs, cuts-done)
+returns c = search (needs, cutsWritten-all)
 
 pub write-cuts-spec : {M : Type 1} → statement M
 write-cuts-spec =

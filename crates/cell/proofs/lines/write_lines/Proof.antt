@@ -3,31 +3,31 @@ use Prim.Native.Nat.{_-_, _≤_}
 use native.Mathlib.Omega.{arith}
 use borrow.Author.Needs.{needs}
 use Rattle.cell.specs.Text.{source}
-use Rattle.cell.proofs.lines.WriteLaws.{line-cuttable, first-line-fits, line-fits, length-fits, LinesWritten, no-line, line-room, end-fits, line-next, lines-end, lengths-done, lines-done}
+use Rattle.cell.proofs.lines.WriteLaws.{pieces-cuttable, linesWritten-first-fits, linesWritten-line-fits, pieces-fit, pieces-small, LinesWritten, linesWritten-none, linesWritten-low, linesWritten-next, linesWritten-end, linesWritten-lengths, linesWritten-text}
 use Rattle.cell.proofs.lines.write_lines.Statement.{statement}
 use Rattle.cell.proofs.lines.write_lines.Tie as tie
 
 abbrev Inv-loop : tie.InvT-loop
-Inv-loop lengths columns text starts offsets top left right count at byte out-lengths₀ out-text₀ end₀ i₀ out-lengths out-text end i =
-    (i ≤ count) × LinesWritten (source lengths columns text starts offsets) top left right count at byte out-lengths₀ out-text₀ i end out-lengths out-text
+Inv-loop lengths columns text starts offsets top left right count at out-lengths₀ out-text₀ end₀ i₀ out-lengths out-text end i =
+    (i ≤ count) × LinesWritten (source lengths columns text starts offsets) top (left .0) (right .0) count at end₀ out-lengths₀ out-text₀ i end out-lengths out-text
 
 abbrev μ-loop : tie.MeasureT-loop
-μ-loop lengths columns text starts offsets top left right count at byte out-lengths₀ out-text₀ end₀ i₀ out-lengths out-text end i = count - i
+μ-loop lengths columns text starts offsets top left right count at out-lengths₀ out-text₀ end₀ i₀ out-lengths out-text end i = count - i
 
 loop-holds : tie.Need-loop-holds Inv-loop μ-loop
-loop-holds c = search (needs, no-line)
+loop-holds c = search (needs, linesWritten-none)
 
 add-cut-line : tie.Need-add-cut-line Inv-loop μ-loop
-add-cut-line c = search (needs, first-line-fits)
+add-cut-line c = search (needs, linesWritten-first-fits)
 
 add-cut-line-2 : tie.Need-add-cut-line-2 Inv-loop μ-loop
-add-cut-line-2 c = search (needs, line-fits)
+add-cut-line-2 c = search (needs, linesWritten-line-fits)
 
 cut-line-requires : tie.Need-cut-line-requires Inv-loop μ-loop
-cut-line-requires c κs = (search needs, search line-cuttable)
+cut-line-requires c κs = (search needs, search pieces-cuttable)
 
 cast-out-lengths : tie.Need-cast-out-lengths Inv-loop μ-loop
-cast-out-lengths c = search length-fits
+cast-out-lengths c = search pieces-fit
 
 add-out-lengths : tie.Need-add-out-lengths Inv-loop μ-loop
 add-out-lengths c = omega arith
@@ -38,11 +38,8 @@ mul-out-lengths c = omega arith
 slice-write-out-lengths : tie.Need-slice-write-out-lengths Inv-loop μ-loop
 slice-write-out-lengths c = omega arith
 
-copy-to-requires : tie.Need-copy-to-requires Inv-loop μ-loop
-copy-to-requires c κs = search line-room
-
-add-end : tie.Need-add-end Inv-loop μ-loop
-add-end c = search (needs, end-fits)
+copy-requires : tie.Need-copy-requires Inv-loop μ-loop
+copy-requires c κs = (search linesWritten-low, search pieces-small)
 
 add-i : tie.Need-add-i Inv-loop μ-loop
 add-i c = omega arith
@@ -51,7 +48,7 @@ loop-less : tie.Need-loop-less Inv-loop μ-loop
 loop-less c = omega arith
 
 loop-again : tie.Need-loop-again Inv-loop μ-loop
-loop-again c = (omega arith, search line-next)
+loop-again c = (omega arith, search linesWritten-next)
 
 same-length : tie.Need-same-length Inv-loop μ-loop
 same-length c = search needs
@@ -60,7 +57,7 @@ same-length-2 : tie.Need-same-length-2 Inv-loop μ-loop
 same-length-2 c = search needs
 
 returns : tie.Need-returns Inv-loop μ-loop
-returns c = (search lines-end, search lengths-done, search lines-done)
+returns c = (search linesWritten-end, search linesWritten-lengths, search linesWritten-text)
 
 pub write-lines-spec : {M : Type 1} → statement M
 write-lines-spec =
@@ -76,8 +73,7 @@ write-lines-spec =
     add-out-lengths
     mul-out-lengths
     slice-write-out-lengths
-    copy-to-requires
-    add-end
+    copy-requires
     add-i
     loop-less
     loop-again

@@ -3,7 +3,7 @@ use Prim.Native.Nat.{_-_, _≤_}
 use lib.ListN.{length}
 use native.Mathlib.Omega.{arith}
 use borrow.Author.Needs.{needs}
-use Rattle.cell.proofs.pieces.PieceLaws.{Starting, none-started, start-room, next-fits, one-started, all-started}
+use Rattle.cell.proofs.pieces.PieceLaws.{Starting, starting-none, starting-room, starting-fits, starting-next, starting-all}
 use Rattle.cell.proofs.pieces.line_starts.Statement.{statement}
 use Rattle.cell.proofs.pieces.line_starts.Tie as tie
 
@@ -14,13 +14,13 @@ abbrev μ-loop : tie.MeasureT-loop
 μ-loop lengths starts₀ at₀ y₀ starts at y = length lengths - y
 
 loop-holds : tie.Need-loop-holds Inv-loop μ-loop
-loop-holds c = search (needs, none-started)
+loop-holds c = search (needs, starting-none)
 
 mul-starts : tie.Need-mul-starts Inv-loop μ-loop
 mul-starts c = search needs
 
 slice-write-starts : tie.Need-slice-write-starts Inv-loop μ-loop
-slice-write-starts c = search start-room
+slice-write-starts c = search starting-room
 
 mul-at : tie.Need-mul-at Inv-loop μ-loop
 mul-at c = search needs
@@ -29,7 +29,7 @@ shared-slice-read-at : tie.Need-shared-slice-read-at Inv-loop μ-loop
 shared-slice-read-at c = search needs
 
 add-at : tie.Need-add-at Inv-loop μ-loop
-add-at c = search next-fits
+add-at c = search starting-fits
 
 add-y : tie.Need-add-y Inv-loop μ-loop
 add-y c = search needs
@@ -38,13 +38,13 @@ loop-less : tie.Need-loop-less Inv-loop μ-loop
 loop-less c = omega arith
 
 loop-again : tie.Need-loop-again Inv-loop μ-loop
-loop-again c = search (needs, one-started)
+loop-again c = search (needs, starting-next)
 
 same-length : tie.Need-same-length Inv-loop μ-loop
 same-length c = search needs
 
 returns : tie.Need-returns Inv-loop μ-loop
-returns c = search all-started
+returns c = search starting-all
 
 pub line-starts-spec : {M : Type 1} → statement M
 line-starts-spec =

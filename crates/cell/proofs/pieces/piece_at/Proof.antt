@@ -1,7 +1,7 @@
 -- `cell::pieces::piece_at` meets its contract: the line is the definition's, and so is its piece.
 use borrow.Author.Needs.{needs}
 use mir.Facts.{fits-16-64}
-use Rattle.cell.proofs.pieces.PieceLaws.{line-fits, line-inside, start-fits, part-checked, piece-told}
+use Rattle.cell.proofs.pieces.PieceLaws.{cuttable-inside, cuttable-fits, cuttable-low, cuttable-start-fits, cuttable-checked, piece-told}
 use Rattle.cell.proofs.pieces.piece_at.Statement.{statement}
 use Rattle.cell.proofs.pieces.piece_at.Tie as tie
 
@@ -24,7 +24,7 @@ cast-to : tie.Need-cast-to
 cast-to c = fits-16-64 (c .shared-slice-known7 .given _)
 
 add-to : tie.Need-add-to
-add-to c = search line-fits
+add-to c = search cuttable-fits
 
 sub-line : tie.Need-sub-line
 sub-line c = search needs
@@ -33,52 +33,28 @@ part-line-start : tie.Need-part-line-start
 part-line-start c = search needs
 
 part-line-end : tie.Need-part-line-end
-part-line-end c = search line-inside
+part-line-end c = search cuttable-inside
 
-mul-t18 : tie.Need-mul-t18
-mul-t18 c = search needs
+mul-column : tie.Need-mul-column
+mul-column c = search needs
 
-add-t14 : tie.Need-add-t14
-add-t14 c = search needs
+shared-slice-read-column : tie.Need-shared-slice-read-column
+shared-slice-read-column c = search needs
 
-mul-t21 : tie.Need-mul-t21
-mul-t21 c = search needs
+cast-column : tie.Need-cast-column
+cast-column c = fits-16-64 (c .shared-slice-known8 .given _)
 
-shared-slice-read-t16 : tie.Need-shared-slice-read-t16
-shared-slice-read-t16 c = search needs
+byte-at-requires : tie.Need-byte-at-requires
+byte-at-requires c κs = search (needs, cuttable-low)
 
-cast-t23 : tie.Need-cast-t23
-cast-t23 c = fits-16-64 (c .shared-slice-known8 .given _)
+add-start : tie.Need-add-start
+add-start c = search cuttable-start-fits
 
-add-t24 : tie.Need-add-t24
-add-t24 c = search start-fits
-
-mul-t18-2 : tie.Need-mul-t18-2
-mul-t18-2 c = search needs
-
-add-t24-2 : tie.Need-add-t24-2
-add-t24-2 c = search needs
-
-mul-t23 : tie.Need-mul-t23
-mul-t23 c = search needs
-
-shared-slice-read-t16-2 : tie.Need-shared-slice-read-t16-2
-shared-slice-read-t16-2 c = search needs
-
-cast-t21 : tie.Need-cast-t21
-cast-t21 c = fits-16-64 (c .shared-slice-known9 .given _)
-
-mul-t14 : tie.Need-mul-t14
-mul-t14 c = search needs
-
-shared-slice-read-t16-3 : tie.Need-shared-slice-read-t16-3
-shared-slice-read-t16-3 c = search needs
-
-cast-t21-2 : tie.Need-cast-t21-2
-cast-t21-2 c = fits-16-64 (c .shared-slice-known10 .given _)
+byte-at-requires-2 : tie.Need-byte-at-requires-2
+byte-at-requires-2 c κs = search (needs, cuttable-low)
 
 cut-part-requires : tie.Need-cut-part-requires
-cut-part-requires c κs = search part-checked
+cut-part-requires c κs = search cuttable-checked
 
 returns : tie.Need-returns
 returns c = search piece-told
@@ -97,19 +73,11 @@ piece-at-spec =
     sub-line
     part-line-start
     part-line-end
-    mul-t18
-    add-t14
-    mul-t21
-    shared-slice-read-t16
-    cast-t23
-    add-t24
-    mul-t18-2
-    add-t24-2
-    mul-t23
-    shared-slice-read-t16-2
-    cast-t21
-    mul-t14
-    shared-slice-read-t16-3
-    cast-t21-2
+    mul-column
+    shared-slice-read-column
+    cast-column
+    byte-at-requires
+    add-start
+    byte-at-requires-2
     cut-part-requires
     returns)

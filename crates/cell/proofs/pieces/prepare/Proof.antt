@@ -1,6 +1,6 @@
 -- `cell::pieces::prepare` meets its contract: from its two calls.
 use borrow.Author.Needs.{needs}
-use Rattle.cell.proofs.pieces.TotalLaws.{measurable, prepared}
+use Rattle.cell.proofs.pieces.TotalLaws.{preparable-measured, preparable-prepared}
 use Rattle.cell.proofs.pieces.prepare.Statement.{statement}
 use Rattle.cell.proofs.pieces.prepare.Tie as tie
 
@@ -8,7 +8,10 @@ line-starts-requires : tie.Need-line-starts-requires
 line-starts-requires c κs = search needs
 
 measure-requires : tie.Need-measure-requires
-measure-requires c κs = measurable _ _ _ _ _ _ _ _ (c .before .before .before .before .before .before .before .before .before .before .before .before .before .pre) _ (c .before .before .before .before .line-starts .ensures)
+measure-requires c κs =
+    let start : tie.Start = search needs in
+    let started : tie.After-line-starts = search needs in
+    preparable-measured _ _ _ _ _ _ _ _ (start .pre) _ (started .line-starts .ensures)
 
 same-length : tie.Need-same-length
 same-length c = search needs
@@ -17,7 +20,7 @@ same-length-2 : tie.Need-same-length-2
 same-length-2 c = search needs
 
 returns : tie.Need-returns
-returns c = search prepared
+returns c = search preparable-prepared
 
 pub prepare-spec : {M : Type 1} → statement M
 prepare-spec =

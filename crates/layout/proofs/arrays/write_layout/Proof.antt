@@ -3,6 +3,9 @@ use borrow.Author.Needs.{needs}
 use Rattle.layout.proofs.arrays.write_layout.Statement.{statement}
 use Rattle.layout.proofs.arrays.write_layout.Tie as tie
 
+abbrev start : tie.After-write-ranges-arg → tie.Start
+start c = search needs
+
 write-columns-requires : tie.Need-write-columns-requires
 write-columns-requires c κs = search needs
 
@@ -14,8 +17,7 @@ write-cells-requires c κs = search needs
 
 write-ranges-requires : tie.Need-write-ranges-requires
 write-ranges-requires c κs =
-    let p = c .before .before .before .before .before .before .before .before .before .before .before .before .before .before .before .before .before .before .before .before .before .pre in
-    ((p .0 .0, p .0 .1, p .0 .3), (λ r m. p .1 .1 .1 .1 .0 r m .inside, (p .1 .1 .1 .1 .1 .0, p .1 .1 .1 .1 .1 .1 .3)))
+    let w = start c .pre in ((w .few, w .rectRoom, w .offsetRoom), (λ r m. w .numbered r m .inside, (w .smallBytes, w .rangesFit)))
 
 same-length : tie.Need-same-length
 same-length c = search needs
@@ -30,12 +32,7 @@ same-length-4 : tie.Need-same-length-4
 same-length-4 c = search needs
 
 returns : tie.Need-returns
-returns c = (
-  c .before .before .before .before .before .before .before .before .before .before .before .before .before .before .write-columns .ensures,
-  c .before .before .before .before .before .before .before .before .before .before .write-rows .ensures,
-  c .before .before .before .before .before .before .write-cells .ensures,
-  c .before .before .write-ranges .ensures,
-)
+returns c = search needs
 
 pub write-layout-spec : {M : Type 1} → statement M
 write-layout-spec =

@@ -26,6 +26,18 @@ shared-slice-read-top c = omega arith
 cast-top : tie.Need-cast-top Inv-loop μ-loop
 cast-top c = fits-8-64 (c .shared-slice-known3 .given _)
 
+mul-left : tie.Need-mul-left Inv-loop μ-loop
+mul-left c = omega arith
+
+add-left : tie.Need-add-left Inv-loop μ-loop
+add-left c = omega arith
+
+shared-slice-read-left : tie.Need-shared-slice-read-left Inv-loop μ-loop
+shared-slice-read-left c = omega arith
+
+cast-left : tie.Need-cast-left Inv-loop μ-loop
+cast-left c = fits-8-64 (c .shared-slice-known4 .given _)
+
 mul-bottom : tie.Need-mul-bottom Inv-loop μ-loop
 mul-bottom c = omega arith
 
@@ -36,31 +48,19 @@ shared-slice-read-bottom : tie.Need-shared-slice-read-bottom Inv-loop μ-loop
 shared-slice-read-bottom c = omega arith
 
 cast-bottom : tie.Need-cast-bottom Inv-loop μ-loop
-cast-bottom c = fits-8-64 (c .shared-slice-known4 .given _)
+cast-bottom c = fits-8-64 (c .shared-slice-known5 .given _)
 
-mul-write-ranges-of : tie.Need-mul-write-ranges-of Inv-loop μ-loop
-mul-write-ranges-of c = omega arith
+mul-right : tie.Need-mul-right Inv-loop μ-loop
+mul-right c = omega arith
 
-add-write-ranges-of : tie.Need-add-write-ranges-of Inv-loop μ-loop
-add-write-ranges-of c = omega arith
+add-right : tie.Need-add-right Inv-loop μ-loop
+add-right c = omega arith
 
-shared-slice-read-write-ranges-of : tie.Need-shared-slice-read-write-ranges-of Inv-loop μ-loop
-shared-slice-read-write-ranges-of c = omega arith
+shared-slice-read-right : tie.Need-shared-slice-read-right Inv-loop μ-loop
+shared-slice-read-right c = omega arith
 
-cast-write-ranges-of : tie.Need-cast-write-ranges-of Inv-loop μ-loop
-cast-write-ranges-of c = fits-8-64 (c .shared-slice-known5 .given _)
-
-mul-write-ranges-of-2 : tie.Need-mul-write-ranges-of-2 Inv-loop μ-loop
-mul-write-ranges-of-2 c = omega arith
-
-add-write-ranges-of-2 : tie.Need-add-write-ranges-of-2 Inv-loop μ-loop
-add-write-ranges-of-2 c = omega arith
-
-shared-slice-read-write-ranges-of-2 : tie.Need-shared-slice-read-write-ranges-of-2 Inv-loop μ-loop
-shared-slice-read-write-ranges-of-2 c = omega arith
-
-cast-write-ranges-of-2 : tie.Need-cast-write-ranges-of-2 Inv-loop μ-loop
-cast-write-ranges-of-2 c = fits-8-64 (c .shared-slice-known6 .given _)
+cast-right : tie.Need-cast-right Inv-loop μ-loop
+cast-right c = fits-8-64 (c .shared-slice-known6 .given _)
 
 write-ranges-of-requires : tie.Need-write-ranges-of-requires Inv-loop μ-loop
 write-ranges-of-requires c κs = ((search top-above, search bottom-small, search left-small, search right-small, search needs), (search ranges-fit, search rect-small))
@@ -102,18 +102,18 @@ write-ranges-spec =
     mul-top
     shared-slice-read-top
     cast-top
+    mul-left
+    add-left
+    shared-slice-read-left
+    cast-left
     mul-bottom
     add-bottom
     shared-slice-read-bottom
     cast-bottom
-    mul-write-ranges-of
-    add-write-ranges-of
-    shared-slice-read-write-ranges-of
-    cast-write-ranges-of
-    mul-write-ranges-of-2
-    add-write-ranges-of-2
-    shared-slice-read-write-ranges-of-2
-    cast-write-ranges-of-2
+    mul-right
+    add-right
+    shared-slice-read-right
+    cast-right
     write-ranges-of-requires
     sub-at
     sub-at-2

@@ -9,7 +9,7 @@ use Rattle.layout.proofs.range_entries.write_ranges_of.Statement.{state
 use Rattle.layout.proofs.range_entries.write_ranges_of.Tie as tie
 
 abbrev Inv-loop : tie.InvT-loop
-Inv-loop offsets top left bottom right at out₀ y₀ i₀ out y i = (top < y) × (y ≤ bottom) × (i ≡ at + 2 * (y - top - 1)) × RangesWritten offsets top left bottom right at out₀ y out
+Inv-loop offsets top left bottom right at out₀ y₀ i₀ out y i = (top < y) × (y ≤ bottom) × (i ≡ at + 2 * (y - top - 1)) × RangesWritten offsets top (left .0) bottom (right .0) at out₀ y out
 
 abbrev μ-loop : tie.MeasureT-loop
 μ-loop offsets top left bottom right at out₀ y₀ i₀ out y i = bottom - y
@@ -20,44 +20,32 @@ add-y c = omega arith
 loop-holds : tie.Need-loop-holds Inv-loop μ-loop
 loop-holds c = search (needs, no-range)
 
-mul-out : tie.Need-mul-out Inv-loop μ-loop
-mul-out c = omega arith
+byte-at-requires : tie.Need-byte-at-requires Inv-loop μ-loop
+byte-at-requires c κs = search needs
+
+cast-out : tie.Need-cast-out Inv-loop μ-loop
+cast-out c = search needs
 
 add-out : tie.Need-add-out Inv-loop μ-loop
-add-out c = omega arith
+add-out c = search (needs, start-fits)
 
-mul-out-2 : tie.Need-mul-out-2 Inv-loop μ-loop
-mul-out-2 c = omega arith
-
-shared-slice-read-out : tie.Need-shared-slice-read-out Inv-loop μ-loop
-shared-slice-read-out c = omega arith
-
-add-out-2 : tie.Need-add-out-2 Inv-loop μ-loop
-add-out-2 c = search (needs, start-fits)
-
-mul-out-3 : tie.Need-mul-out-3 Inv-loop μ-loop
-mul-out-3 c = omega arith
+mul-out : tie.Need-mul-out Inv-loop μ-loop
+mul-out c = omega arith
 
 slice-write-out : tie.Need-slice-write-out Inv-loop μ-loop
 slice-write-out c = omega arith
 
-mul-out-4 : tie.Need-mul-out-4 Inv-loop μ-loop
-mul-out-4 c = omega arith
+byte-at-requires-2 : tie.Need-byte-at-requires-2 Inv-loop μ-loop
+byte-at-requires-2 c κs = search needs
 
-add-out-3 : tie.Need-add-out-3 Inv-loop μ-loop
-add-out-3 c = omega arith
+cast-out-2 : tie.Need-cast-out-2 Inv-loop μ-loop
+cast-out-2 c = search needs
 
-mul-out-5 : tie.Need-mul-out-5 Inv-loop μ-loop
-mul-out-5 c = omega arith
+add-out-2 : tie.Need-add-out-2 Inv-loop μ-loop
+add-out-2 c = omega arith
 
-shared-slice-read-out-2 : tie.Need-shared-slice-read-out-2 Inv-loop μ-loop
-shared-slice-read-out-2 c = omega arith
-
-add-out-4 : tie.Need-add-out-4 Inv-loop μ-loop
-add-out-4 c = omega arith
-
-mul-out-6 : tie.Need-mul-out-6 Inv-loop μ-loop
-mul-out-6 c = omega arith
+mul-out-2 : tie.Need-mul-out-2 Inv-loop μ-loop
+mul-out-2 c = omega arith
 
 slice-write-out-2 : tie.Need-slice-write-out-2 Inv-loop μ-loop
 slice-write-out-2 c = simp length-set (omega arith)
@@ -88,19 +76,15 @@ write-ranges-of-spec =
     μ-loop
     add-y
     loop-holds
-    mul-out
+    byte-at-requires
+    cast-out
     add-out
-    mul-out-2
-    shared-slice-read-out
-    add-out-2
-    mul-out-3
+    mul-out
     slice-write-out
-    mul-out-4
-    add-out-3
-    mul-out-5
-    shared-slice-read-out-2
-    add-out-4
-    mul-out-6
+    byte-at-requires-2
+    cast-out-2
+    add-out-2
+    mul-out-2
     slice-write-out-2
     add-i
     add-y-2

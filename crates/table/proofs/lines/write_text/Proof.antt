@@ -4,13 +4,13 @@ use mir.Facts.{fits-8-64}
 use native.Mathlib.Omega.{arith}
 use borrow.Author.Needs.{needs}
 use Rattle.cell.specs.Text.{source}
-use Rattle.table.proofs.lines.WriteLaws.{TextWritten, no-cell-lines, count-inside, cell-cuttable, line-count-fits, cell-line-room, cell-byte-room, cell-lines, all-lengths-written, all-text-written}
+use Rattle.table.proofs.lines.WriteLaws.{TextWritten, no-cell-lines, count-inside, cell-cuttable, line-count-fits, cell-line-room, cell-byte-room, cell-byte-few, cell-lines, all-lengths-written, all-text-written}
 use Rattle.table.proofs.lines.write_text.Statement.{statement}
 use Rattle.table.proofs.lines.write_text.Tie as tie
 
 abbrev Inv-loop : tie.InvT-loop
 Inv-loop lengths columns text starts offsets rects n counts out-lengths₀ out-text₀ line₀ byte₀ k₀ out-lengths out-text line byte k =
-    (k ≤ n) × TextWritten (source lengths columns text starts offsets) rects n counts out-lengths₀ out-text₀ k line byte out-lengths out-text
+    (k ≤ n) × TextWritten (source lengths columns text starts offsets) rects n counts out-lengths₀ out-text₀ k line (byte .0) out-lengths out-text
 
 abbrev μ-loop : tie.MeasureT-loop
 μ-loop lengths columns text starts offsets rects n counts out-lengths₀ out-text₀ line₀ byte₀ k₀ out-lengths out-text line byte k = n - k
@@ -24,43 +24,45 @@ shared-slice-read-count c = search count-inside
 cast-count : tie.Need-cast-count Inv-loop μ-loop
 cast-count c = fits-8-64 (c .shared-slice-known8 .given _)
 
-mul-write-lines : tie.Need-mul-write-lines Inv-loop μ-loop
-mul-write-lines c = omega arith
+mul-top : tie.Need-mul-top Inv-loop μ-loop
+mul-top c = omega arith
 
-shared-slice-read-write-lines : tie.Need-shared-slice-read-write-lines Inv-loop μ-loop
-shared-slice-read-write-lines c = omega arith
+shared-slice-read-top : tie.Need-shared-slice-read-top Inv-loop μ-loop
+shared-slice-read-top c = omega arith
 
-cast-write-lines : tie.Need-cast-write-lines Inv-loop μ-loop
-cast-write-lines c = fits-8-64 (c .shared-slice-known9 .given _)
+cast-top : tie.Need-cast-top Inv-loop μ-loop
+cast-top c = fits-8-64 (c .shared-slice-known9 .given _)
 
-mul-write-lines-2 : tie.Need-mul-write-lines-2 Inv-loop μ-loop
-mul-write-lines-2 c = omega arith
+mul-left : tie.Need-mul-left Inv-loop μ-loop
+mul-left c = omega arith
 
-add-write-lines : tie.Need-add-write-lines Inv-loop μ-loop
-add-write-lines c = omega arith
+add-left : tie.Need-add-left Inv-loop μ-loop
+add-left c = omega arith
 
-shared-slice-read-write-lines-2 : tie.Need-shared-slice-read-write-lines-2 Inv-loop μ-loop
-shared-slice-read-write-lines-2 c = omega arith
+shared-slice-read-left : tie.Need-shared-slice-read-left Inv-loop μ-loop
+shared-slice-read-left c = omega arith
 
-cast-write-lines-2 : tie.Need-cast-write-lines-2 Inv-loop μ-loop
-cast-write-lines-2 c = fits-8-64 (c .shared-slice-known10 .given _)
+cast-left : tie.Need-cast-left Inv-loop μ-loop
+cast-left c = fits-8-64 (c .shared-slice-known10 .given _)
 
-mul-write-lines-3 : tie.Need-mul-write-lines-3 Inv-loop μ-loop
-mul-write-lines-3 c = omega arith
+mul-right : tie.Need-mul-right Inv-loop μ-loop
+mul-right c = omega arith
 
-add-write-lines-2 : tie.Need-add-write-lines-2 Inv-loop μ-loop
-add-write-lines-2 c = omega arith
+add-right : tie.Need-add-right Inv-loop μ-loop
+add-right c = omega arith
 
-shared-slice-read-write-lines-3 : tie.Need-shared-slice-read-write-lines-3 Inv-loop μ-loop
-shared-slice-read-write-lines-3 c = omega arith
+shared-slice-read-right : tie.Need-shared-slice-read-right Inv-loop μ-loop
+shared-slice-read-right c = omega arith
 
-cast-write-lines-3 : tie.Need-cast-write-lines-3 Inv-loop μ-loop
-cast-write-lines-3 c = fits-8-64 (c .shared-slice-known11 .given _)
+cast-right : tie.Need-cast-right Inv-loop μ-loop
+cast-right c = fits-8-64 (c .shared-slice-known11 .given _)
 
 write-lines-requires : tie.Need-write-lines-requires Inv-loop μ-loop
 write-lines-requires c κs =
-    let turn = c .before .before .before .before .before .before in
-    (search needs, (search (cell-cuttable, turn .before .loop .inv .1, turn .loop-test .taken), (search cell-line-room, search (cell-byte-room, turn .before .loop .inv .1, turn .loop-test .taken))))
+    let turn : tie.In-loop Inv-loop μ-loop = search needs in
+    let written = turn .before .loop .inv .1 in
+    let inside = turn .loop-test .taken in
+    (search needs, (search (cell-cuttable, written, inside), (search cell-line-room, search (cell-byte-room, written, inside), search (cell-byte-few, written, inside))))
 
 add-line : tie.Need-add-line Inv-loop μ-loop
 add-line c = search line-count-fits
@@ -92,17 +94,17 @@ write-text-spec =
     loop-holds
     shared-slice-read-count
     cast-count
-    mul-write-lines
-    shared-slice-read-write-lines
-    cast-write-lines
-    mul-write-lines-2
-    add-write-lines
-    shared-slice-read-write-lines-2
-    cast-write-lines-2
-    mul-write-lines-3
-    add-write-lines-2
-    shared-slice-read-write-lines-3
-    cast-write-lines-3
+    mul-top
+    shared-slice-read-top
+    cast-top
+    mul-left
+    add-left
+    shared-slice-read-left
+    cast-left
+    mul-right
+    add-right
+    shared-slice-read-right
+    cast-right
     write-lines-requires
     add-line
     add-k

@@ -1,8 +1,8 @@
--- `layout::sections::segment_alignment` meets its contract: by the first and the last byte.
-use Rattle.layout.proofs.sections.PartLaws.{empty-segment, both-colons, left-colon, right-colon, no-colon}
+-- `layout::alignments::segment_alignment` meets its contract: by the first and the last byte.
+use Rattle.layout.proofs.alignments.AlignmentLaws.{empty-segment, both-colons, left-colon, right-colon, no-colon}
 use native.Mathlib.Omega.{arith}
-use Rattle.layout.proofs.sections.segment_alignment.Statement.{statement}
-use Rattle.layout.proofs.sections.segment_alignment.Tie as tie
+use Rattle.layout.proofs.alignments.segment_alignment.Statement.{statement}
+use Rattle.layout.proofs.alignments.segment_alignment.Tie as tie
 
 returns : tie.Need-returns
 returns c = search empty-segment

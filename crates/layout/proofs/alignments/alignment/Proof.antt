@@ -1,46 +1,38 @@
--- `layout::sections::alignment` meets its contract: from its calls.
-use mir.Facts.{fits-16-64}
-use Rattle.layout.proofs.sections.PartLaws.{segment-length, next-fits, no-plus, past-end, alignment-found}
-use native.Mathlib.Omega.{arith}
+-- `layout::alignments::alignment` meets its contract: from its calls.
+use Rattle.layout.proofs.alignments.AlignmentLaws.{segment-length, no-plus, past-end, alignment-found}
 use borrow.Author.Needs.{needs}
-use Rattle.layout.proofs.sections.alignment.Statement.{statement}
-use Rattle.layout.proofs.sections.alignment.Tie as tie
+use Rattle.layout.proofs.alignments.alignment.Statement.{statement}
+use Rattle.layout.proofs.alignments.alignment.Tie as tie
 
-mul-at : tie.Need-mul-at
-mul-at c = omega arith
+mul-if1 : tie.Need-mul-if1
+mul-if1 c = search needs
 
-add-at : tie.Need-add-at
-add-at c = omega arith
+add-if1 : tie.Need-add-if1
+add-if1 c = search needs
 
 shared-slice-read-if1 : tie.Need-shared-slice-read-if1
-shared-slice-read-if1 c = omega arith
+shared-slice-read-if1 c = search needs
 
 returns : tie.Need-returns
 returns c = search no-plus
 
-mul-from : tie.Need-mul-from
-mul-from c = omega arith
-
-shared-slice-read-from : tie.Need-shared-slice-read-from
-shared-slice-read-from c = omega arith
-
-cast-from : tie.Need-cast-from
-cast-from c = fits-16-64 (c .shared-slice-known5 .given _)
+byte-at-requires : tie.Need-byte-at-requires
+byte-at-requires c κs = search needs
 
 add-from : tie.Need-add-from
-add-from c = next-fits (c .shared-slice-known5 .given _)
+add-from c = search needs
 
 returns-2 : tie.Need-returns-2
 returns-2 c = search past-end
 
 sub-rest : tie.Need-sub-rest
-sub-rest c = omega arith
+sub-rest c = search needs
 
 part-rest-start : tie.Need-part-rest-start
-part-rest-start c = omega arith
+part-rest-start c = search needs
 
 part-rest-end : tie.Need-part-rest-end
-part-rest-end c = omega arith
+part-rest-end c = search needs
 
 segment-end-requires : tie.Need-segment-end-requires
 segment-end-requires c κs = search needs
@@ -58,13 +50,11 @@ pub alignment-spec : {M : Type 1} → statement M
 alignment-spec =
     tie.close
     (tie.spec
-    mul-at
-    add-at
+    mul-if1
+    add-if1
     shared-slice-read-if1
     returns
-    mul-from
-    shared-slice-read-from
-    cast-from
+    byte-at-requires
     add-from
     returns-2
     sub-rest

@@ -1,0 +1,2 @@
+-- Laws of alignments.
+pub mod AlignmentLaws

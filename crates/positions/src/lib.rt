@@ -15,6 +15,7 @@ use layout::bounds::row_bounds;
 use reading::Outcome;
 use reading::read;
 use reading::refusal;
+use text::Column;
 ghost use mathlib.Core.Path.{_≡_};
 ghost use mathlib.Core.List.{List};
 ghost use Prim.Native.Nat.{ℕ};
@@ -23,7 +24,7 @@ ghost use Rattle.grid.specs.Values.{Line};
 ghost use Rattle.grid.specs.LayoutCall.{spaces, drawing};
 ghost use Rattle.representation.specs.Arrays.{rectsOf};
 ghost use Rattle.representation.specs.Edges.{rowLinesBelow};
-ghost use Rattle.reading.specs.Call.{Reading};
+ghost use Rattle.reading.specs.Call.{sheetOf, Reading};
 ghost use Rattle.sourcepos.specs.PositionsCall.{placed, positionsLent, positionsAnswer, positionsAfterwards, cellPositionAnswer};
 ghost use Rattle.positions.specs.Spans.{placedLines, drawnLines};
 ghost use Rattle.positions.specs.Needs.{PlacedSheet, Cells, RowsAndCells};
@@ -69,7 +70,9 @@ fn read_placed(
         let space = spaces (now (glyphs .entry)) (now (offsets .entry)) (now (down .entry)) (now (right .entry)) (now (rects .entry)) in
         let given = drawing lines bytes (now (lengths .entry)) (now (columns .entry)) (now (text .entry)) in
         let answer = placedRects space starts (placed given (now (numbers .entry)) (now («table_bytes» .entry))) in
-        ⌜ Reading answer (now (lengths .entry)) (now (columns .entry)) (now (text .entry)) (now (glyphs .exit)) (now (offsets .exit)) (now (rects .exit)) r
+        let left =
+        sheetOf (now (lengths .entry)) (now (columns .entry)) (now (text .entry)) (now (glyphs .exit)) (now (offsets .exit)) (now (rects .exit)) in
+        ⌜ Reading answer left r
         × (r .number ≡ 0 → PlacedSheet (now (lengths .entry)) (now (numbers .entry)) (now («table_bytes» .entry)) starts) ⌝ }
 {
     let number = placed_number(
@@ -175,14 +178,18 @@ fn finish_cell(
             place: 0,
         };
     }
+    let top = rects[4 * k] as usize;
+    let left = rects[4 * k + 1] as usize;
+    let bottom = rects[4 * k + 2] as usize;
+    let right = rects[4 * k + 3] as usize;
     CellPositionAnswer::Accepted(rect_position(
         numbers,
         table_bytes,
         offsets,
-        rects[4 * k] as usize,
-        rects[4 * k + 1] as usize,
-        rects[4 * k + 2] as usize,
-        rects[4 * k + 3] as usize,
+        top,
+        Column(left),
+        bottom,
+        Column(right),
     ))
 }
 

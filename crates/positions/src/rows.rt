@@ -1,9 +1,11 @@
 // The positions of whole lines: of a table and of its rows.
 use crate::span::Sourcepos;
 use crate::span::no_lines;
+use crate::span::source_byte;
 use crate::span::write_sourcepos;
 use representation::Bounds;
 use rule_lines::trim::trim_end;
+use text::ByteAt;
 ghost use Prim.Native.Nat.{ℕ, _*_, _-_, _≤_, _<_};
 ghost use mathlib.Core.Path.{_≡_};
 ghost use mathlib.Core.List.{List, [], List·Memᴰ};
@@ -16,15 +18,15 @@ ghost use Rattle.sourcepos.specs.Positions.{wholeLines};
 ghost use Rattle.positions.specs.Spans.{sourceposOf, drawnLines, linesBetween, rowSpans};
 ghost use Rattle.positions.specs.Needs.{NumberedLines, StartedLines};
 
-// How many bytes line y has, trimmed.
-fn trimmed_end(lengths: &[u16], text: &[u8], starts: &[u16], y: usize) -> u32
+// Where line y ends, trimmed.
+fn trimmed_end(lengths: &[u16], text: &[u8], starts: &[u16], y: usize) -> ByteAt
     requires { ⌜ StartedLines (now lengths) (now text) (now starts) × (y < length (now lengths)) ⌝ }
-    ensures { λ r. ⌜ (r ≡ length (trimEnd (getD (splitText (now (lengths .entry)) (now (text .entry))) y []))) × (r ≤ 512) ⌝ }
+    ensures { λ r. ⌜ (r .0 ≡ length (trimEnd (getD (splitText (now (lengths .entry)) (now (text .entry))) y []))) × (r .0 ≤ 512) ⌝ }
 {
     let from = starts[y] as usize;
     let to = from + lengths[y] as usize;
     let line = trim_end(&text[from..to]);
-    line.len() as u32
+    ByteAt(line.len())
 }
 
 // From a line's table byte + 1 to another line's trimmed end.
@@ -44,11 +46,15 @@ pub fn whole_lines(
         ⌜ ((columns : List ℕ) → sourceposOf r ≡ wholeLines (drawn columns) first last) ⌝ }
 {
     let end = trimmed_end(lengths, text, starts, last);
+    let start_line = numbers[first];
+    let start_column = table_bytes[first] + 1;
+    let end_line = numbers[last];
+    let end_column = source_byte(table_bytes[last], end);
     Sourcepos {
-        start_line: numbers[first],
-        start_column: table_bytes[first] + 1,
-        end_line: numbers[last],
-        end_column: table_bytes[last] + end,
+        start_line,
+        start_column,
+        end_line,
+        end_column,
     }
 }
 

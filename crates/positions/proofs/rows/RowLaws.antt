@@ -5,7 +5,7 @@ use mathlib.Core.List.{List, [], _++_, List·Memᴰ}
 use native.Mathlib.Nat.{zero-add, le-refl}
 use native.Mathlib.Omega.{arith}
 use lib.ListN.{length, getD, take, drop, length-take}
-use mir.Syntax.{w32, w64}
+use mir.Syntax.{w64}
 use mir.Val.{Fits}
 use borrow.Author.Needs.{fits-under}
 use borrow.Author.Tests.{lt-ltb, le-ltb}
@@ -46,9 +46,6 @@ module _ (lengths text starts : List ℕ) (s : StartedLines lengths text starts)
           s .shortLines y,
         )
 
-    pub trimmed-fits : Fits w32 (length r)
-    trimmed-fits = fits-under w32 (length r) 513 (omega (arith, trimmed-short)) tt
-
     pub trimmed-told : length r ≡ length (trimEnd (getD (splitText lengths text) y []))
     trimmed-told = ap length (line-trimmed lengths text (getD starts y 0) y (s .started y h) y (le-refl y) (le-refl y) r h e)
 
@@ -57,15 +54,15 @@ module _ (lengths text numbers tableBytes : List ℕ) where
   abbrev drawn : List ℕ → Placed
   drawn columns = drawnLines numbers tableBytes lengths text columns
 
-  pub whole-told : (first last end : ℕ) → end ≡ length (trimEnd (getD (splitText lengths text) last [])) → (columns : List ℕ)
+  pub whole-told : (first last end column : ℕ) → end ≡ length (trimEnd (getD (splitText lengths text) last [])) → column ≡ getD tableBytes last 0 + end → (columns : List ℕ)
       → record {
         startLine = getD numbers first 0;
         startColumn = getD tableBytes first 0 + 1;
         endLine = getD numbers last 0;
-        endColumn = getD tableBytes last 0 + end;
+        endColumn = column;
       } ≡ wholeLines (drawn columns) first last
   unfolding wholeLines
-  whole-told first last end e columns = rw (trimmed-text (splitText lengths text) columns last, e)
+  whole-told first last end column e f columns = rw (trimmed-text (splitText lengths text) columns last, f, e)
 
   module _ (top bottom : ℕ) (s : Sourcepos) where
     pub lines-told : top + 1 < bottom → ((columns : List ℕ) → s ≡ wholeLines (drawn columns) (top + 1) (bottom - 1))

@@ -7,33 +7,23 @@ use native.Mathlib.Nat.{zero-add}
 use native.Mathlib.Numerals.{add-one}
 use lib.ListN.{length, getD, take, drop, set}
 use lib.Seq.{sets-eq, length-take-le}
-use mir.Syntax.{w16, w32}
+use mir.Syntax.{w32}
 use mir.Val.{Fits}
 use borrow.Author.Needs.{fits-under}
 use Rattle.seq.proofs.FlatMaps.{length-flatMap}
 use Rattle.seq.proofs.Entries.{Written, write-more}
+use Rattle.grid.specs.Limits.{maxRegister}
 use Rattle.sourcepos.specs.Positions.{Sourcepos}
 use Rattle.sourcepos.specs.PositionsCall.{fourNumbers}
 use Rattle.positions.specs.Needs.{NumberedLines}
 
--- the byte after a border
-pub start-fits : (k : ℕ) → Fits w16 k → Fits w32 (k + 1)
-start-fits k f = fits-under w32 (k + 1) 65537 (omega (arith, f .fits)) tt
-
--- a table byte with bytes of its line
+-- a table byte has room for the bytes of its line
 module _ (numbers tableBytes : List ℕ) (n : NumberedLines numbers tableBytes) (y : ℕ) where
-  pub column-fits : (k : ℕ) → k ≤ 512 → Fits w32 (getD tableBytes y 0 + k)
-  column-fits k low = fits-under w32 (getD tableBytes y 0 + k) 66048 (omega (arith, n .low y)) tt
+  pub table-byte-low : getD tableBytes y 0 ≤ maxRegister
+  table-byte-low = n .low y
 
-  module _ (k : ℕ) (f : Fits w16 k) where
-    pub before-fits : Fits w32 (getD tableBytes y 0 + (k + 1))
-    before-fits = fits-under w32 (getD tableBytes y 0 + (k + 1)) 131072 (omega (arith, n .low y, f .fits)) tt
-
-    pub first-fits : Fits w32 (getD tableBytes y 0 + (k + 1) + 1)
-    first-fits = fits-under w32 (getD tableBytes y 0 + (k + 1) + 1) 131073 (omega (arith, n .low y, f .fits)) tt
-
-    pub last-fits : Fits w32 (getD tableBytes y 0 + k)
-    last-fits = fits-under w32 (getD tableBytes y 0 + k) 131071 (omega (arith, n .low y, f .fits)) tt
+  pub column-fits : Fits w32 (getD tableBytes y 0 + 1)
+  column-fits = fits-under w32 (getD tableBytes y 0 + 1) 65537 (omega (arith, n .low y)) tt
 
 -- four stores side by side
 pub four-stored : (s : Sourcepos) (at : ℕ) (out : List ℕ) → at + 4 ≤ length out

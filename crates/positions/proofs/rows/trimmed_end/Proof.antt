@@ -1,6 +1,6 @@
 -- `positions::rows::trimmed_end` meets its contract: the part is the line.
 use mir.Facts.{fits-16-64}
-use Rattle.positions.proofs.rows.RowLaws.{line-inside, line-fits, trimmed-short, trimmed-fits, trimmed-told}
+use Rattle.positions.proofs.rows.RowLaws.{line-inside, line-fits, trimmed-short, trimmed-told}
 use borrow.Author.Needs.{needs}
 use Rattle.positions.proofs.rows.trimmed_end.Statement.{statement}
 use Rattle.positions.proofs.rows.trimmed_end.Tie as tie
@@ -38,9 +38,6 @@ part-trim-end-end c = search (needs, line-inside)
 trim-end-requires : tie.Need-trim-end-requires
 trim-end-requires c κs = search needs
 
-cast-result : tie.Need-cast-result
-cast-result c = search (needs, trimmed-fits)
-
 returns : tie.Need-returns
 returns c = (search (needs, trimmed-told), search (needs, trimmed-short))
 
@@ -59,5 +56,4 @@ trimmed-end-spec =
     part-trim-end-start
     part-trim-end-end
     trim-end-requires
-    cast-result
     returns)

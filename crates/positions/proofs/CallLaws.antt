@@ -21,7 +21,7 @@ use Rattle.reading.specs.declared.Outcome.{Outcome}
 use Rattle.sourcepos.specs.Positions.{Sourcepos, Placed, tablePosition, cellPosition}
 use Rattle.sourcepos.specs.PositionsCall.{FlatPlaced, placed, placedOf, PositionArrays, positionsLent, positionArrays, PositionsFound}
 use Rattle.sourcepos.specs.PositionsCall.{positionsAnswer, positionsAfterwards, cellPositionAnswer}
-use Rattle.positions.specs.Spans.{placedLines, drawnLines, rectSpan}
+use Rattle.positions.specs.Spans.{placedLines, placedDrawing, rectSpan}
 use Rattle.positions.specs.Parts.{placedRects, spansShort, spansFound, spansWritten, spanAt}
 use Rattle.positions.proofs.PartsLaws.{positions-stopped, cell-stopped, positions-known, cell-known}
 use Rattle.positions.proofs.SpansLaws.{rowSpans-told, rectSpans-told, spansShort-told, layoutOf-rows, layoutOf-cells, rectSpan-at}
@@ -42,7 +42,7 @@ module _ (w : LayoutSpace) (starts lines bytes : ℕ) (a : SheetArrays) (numbers
   given = placed (drawing lines bytes (a .lengths) (a .columns) (a .text)) numbers tableBytes
 
   abbrev drawn : List ℕ → Placed
-  drawn columns = drawnLines numbers tableBytes (a .lengths) (a .text) columns
+  drawn columns = placedDrawing numbers tableBytes (a .lengths) (a .text) columns
 
   abbrev rs : List Rect
   rs = rectsIn a (o .cells)

@@ -22,7 +22,7 @@ use Rattle.representation.specs.declared.Bounds.{Bounds}
 use Rattle.representation.proofs.RectsLaws.{length-rects}
 use Rattle.sourcepos.specs.Positions.{Sourcepos, Placed, wholeLines, tablePosition}
 use Rattle.sourcepos.specs.PositionsCall.{PositionArrays, positionsLent}
-use Rattle.positions.specs.Spans.{placedLines, drawnLines, rowSpans, rectSpan, rectSpans}
+use Rattle.positions.specs.Spans.{placedLines, placedDrawing, rowSpans, rectSpan, rectSpans}
 use Rattle.positions.specs.Needs.{NumberedLines, StartedLines, RowsAndCells}
 use Rattle.positions.specs.Parts.{spansShort, spansFound, spansWritten, spanAt}
 
@@ -41,7 +41,7 @@ module _ {lengths text numbers tableBytes offsets rects : List ℕ} {n room : �
   rows = rowLinesBelow (length lengths) (rectsOf n rects)
 
   abbrev drawn : List ℕ → Placed
-  drawn columns = drawnLines numbers tableBytes lengths text columns
+  drawn columns = placedDrawing numbers tableBytes lengths text columns
 
   started-lines : (starts : List ℕ) → (length starts ≡ room) × ((y : ℕ) → y < length lengths → getD starts y 0 ≡ sum (take y lengths))
       → StartedLines lengths text starts

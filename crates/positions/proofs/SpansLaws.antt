@@ -25,8 +25,8 @@ use Rattle.layout.proofs.FinishNeeds.{rowLines-some}
 use Rattle.cell.proofs.CallLaws.{cell-here}
 use Rattle.sourcepos.specs.Positions.{Placed, rowPosition, cellPosition}
 use Rattle.sourcepos.specs.PositionsCall.{fourNumbers, PositionArrays, positionArrays}
-use Rattle.positions.specs.Spans.{drawnLines, linesBetween, rowSpans, rectSpan, rectSpans}
-use Rattle.positions.specs.Needs.{PlacedSheet, Cells, RowsAndCells}
+use Rattle.positions.specs.Spans.{placedDrawing, linesBetween, rowSpans, rectSpan, rectSpans}
+use Rattle.positions.specs.Needs.{PlacedSheet, PlacedCells, RowsAndCells}
 use Rattle.positions.specs.Parts.{spansShort}
 use Rattle.positions.proofs.CellLaws.{cell-span}
 
@@ -41,7 +41,7 @@ module _ {a : SheetArrays} {o : Outcome} (t : TracedSheet a o) (numbers tableByt
   rows = rowLinesBelow (length (a .lengths)) rs
 
   abbrev drawn : Placed
-  drawn = drawnLines numbers tableBytes (a .lengths) (a .text) (a .columns)
+  drawn = placedDrawing numbers tableBytes (a .lengths) (a .text) (a .columns)
 
   rows-same : rowLines g rs ≡ rows
   unfolding rowLines
@@ -96,7 +96,7 @@ module _ {a : SheetArrays} {o : Outcome} (t : TracedSheet a o) (numbers tableByt
           wide = omega (arith, i .wide, traced-width a o t, t .roomy .widthFits);
         }
 
-    pub placed-cells : Cells numbers tableBytes (a .offsets) (a .rects) (o .cells)
+    pub placed-cells : PlacedCells numbers tableBytes (a .offsets) (a .rects) (o .cells)
     placed-cells =
         record {
           numbered = s .numbered;

@@ -26,8 +26,8 @@ ghost use Rattle.representation.specs.Arrays.{rectsOf};
 ghost use Rattle.representation.specs.Edges.{rowLinesBelow};
 ghost use Rattle.reading.specs.Call.{sheetOf, Reading};
 ghost use Rattle.sourcepos.specs.PositionsCall.{placed, positionsLent, positionsAnswer, positionsAfterwards, cellPositionAnswer};
-ghost use Rattle.positions.specs.Spans.{placedLines, drawnLines};
-ghost use Rattle.positions.specs.Needs.{PlacedSheet, Cells, RowsAndCells};
+ghost use Rattle.positions.specs.Spans.{placedLines, placedDrawing};
+ghost use Rattle.positions.specs.Needs.{PlacedSheet, PlacedCells, RowsAndCells};
 ghost use Rattle.positions.specs.Parts.{placedRects, spansFound, spansWritten, spanAt};
 ghost use Rattle.positions.specs.Answer.{positionsOf, cellPositionOf};
 
@@ -126,7 +126,7 @@ fn finish(
         let after = positionsLent (now («row_positions» .exit)) (now («cell_positions» .exit)) in
         let rs = rectsOf n (now (rects .entry)) in
         let rows = rowLinesBelow (length (now (lengths .entry))) rs in
-        let drawn = drawnLines (now (numbers .entry)) (now («table_bytes» .entry)) (now (lengths .entry)) (now (text .entry)) in
+        let drawn = placedDrawing (now (numbers .entry)) (now («table_bytes» .entry)) (now (lengths .entry)) (now (text .entry)) in
         ⌜ ((columns : List ℕ) → (positionsOf r ≡ spansFound (drawn columns) rows n before)
         × (after ≡ spansWritten (drawn columns) (now (offsets .entry)) rows rs before)) ⌝ }
 {
@@ -167,7 +167,7 @@ fn finish_cell(
     n: usize,
     k: usize,
 ) -> CellPositionAnswer
-    requires { ⌜ Cells (now numbers) (now «table_bytes») (now offsets) (now rects) n ⌝ }
+    requires { ⌜ PlacedCells (now numbers) (now «table_bytes») (now offsets) (now rects) n ⌝ }
     ensures { λ r.
         let placed = placedLines (now (numbers .entry)) (now («table_bytes» .entry)) in
         ⌜ ((lines : List Line) → cellPositionOf r ≡ spanAt (placed lines) (now (offsets .entry)) (now (rects .entry)) n k) ⌝ }

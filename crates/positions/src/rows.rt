@@ -15,7 +15,7 @@ ghost use Rattle.grid.specs.Answer.{over};
 ghost use Rattle.grid.specs.Flat.{splitText};
 ghost use Rattle.representation.specs.LayoutEntries.{linesHeld, Rising};
 ghost use Rattle.sourcepos.specs.Positions.{wholeLines};
-ghost use Rattle.positions.specs.Spans.{sourceposOf, drawnLines, linesBetween, rowSpans};
+ghost use Rattle.positions.specs.Spans.{sourceposOf, placedDrawing, linesBetween, rowSpans};
 ghost use Rattle.positions.specs.Needs.{NumberedLines, StartedLines};
 
 // Where line y ends, trimmed.
@@ -42,7 +42,7 @@ pub fn whole_lines(
     requires { ⌜ StartedLines (now lengths) (now text) (now starts) × NumberedLines (now numbers) (now «table_bytes») ⌝ }
     requires { ⌜ (length (now numbers) ≡ length (now lengths)) × (first < length (now lengths)) × (last < length (now lengths)) ⌝ }
     ensures { λ r.
-        let drawn = drawnLines (now (numbers .entry)) (now («table_bytes» .entry)) (now (lengths .entry)) (now (text .entry)) in
+        let drawn = placedDrawing (now (numbers .entry)) (now («table_bytes» .entry)) (now (lengths .entry)) (now (text .entry)) in
         ⌜ ((columns : List ℕ) → sourceposOf r ≡ wholeLines (drawn columns) first last) ⌝ }
 {
     let end = trimmed_end(lengths, text, starts, last);
@@ -71,7 +71,7 @@ fn row_position(
     requires { ⌜ StartedLines (now lengths) (now text) (now starts) × NumberedLines (now numbers) (now «table_bytes») ⌝ }
     requires { ⌜ (length (now numbers) ≡ length (now lengths)) × (top < bottom) × (bottom < length (now lengths)) ⌝ }
     ensures { λ r.
-        let drawn = drawnLines (now (numbers .entry)) (now («table_bytes» .entry)) (now (lengths .entry)) (now (text .entry)) in
+        let drawn = placedDrawing (now (numbers .entry)) (now («table_bytes» .entry)) (now (lengths .entry)) (now (text .entry)) in
         ⌜ ((columns : List ℕ) → sourceposOf r ≡ linesBetween (drawn columns) top bottom) ⌝ }
 {
     if top + 1 < bottom {
@@ -102,7 +102,7 @@ pub fn write_rows(
     requires { ⌜ (length (now numbers) ≡ length (now lengths)) × ((y : ℕ) → List·Memᴰ y (linesHeld rows) → y < length (now lengths)) ⌝ }
     requires { ⌜ Rising rows × (1 ≤ rows .count) × (4 * (rows .count - 1) ≤ length (now out)) ⌝ }
     ensures { λ _.
-        let drawn = drawnLines (now (numbers .entry)) (now («table_bytes» .entry)) (now (lengths .entry)) (now (text .entry)) in
+        let drawn = placedDrawing (now (numbers .entry)) (now («table_bytes» .entry)) (now (lengths .entry)) (now (text .entry)) in
         ⌜ ((columns : List ℕ) → now (out .exit) ≡ over (rowSpans (drawn columns) (linesHeld rows)) (now (out .entry))) ⌝ }
 {
     let mut k = 0;

@@ -76,21 +76,21 @@ module _ (rects : List ℕ) (n : ℕ) (offsets buffer : List ℕ) (k at : ℕ) (
   all-ranges h = all-written (rangeEntries offsets) (rectsOf n rects) 0 buffer out k (rw length-rects h) (w .entries) ∙ rw zero-add
 
 -- ---- how many
-pub record Counted (rects : List ℕ) (n k count : ℕ) : Type 0 where
+pub record RangesCounted (rects : List ℕ) (n k count : ℕ) : Type 0 where
   pub inside : AllInside rects n
   pub few : count ≤ 128 * k
   pub counted : count ≡ sum (map (λ (q : Rect). q .bottom - q .top - 1) (take k (rectsOf n rects)))
 
-pub none-counted : (rects : List ℕ) (n : ℕ) → ((r : Rect) → List·Memᴰ r (rectsOf n rects) → Inside 128 128 r) → Counted rects n 0 0
+pub none-counted : (rects : List ℕ) (n : ℕ) → ((r : Rect) → List·Memᴰ r (rectsOf n rects) → Inside 128 128 r) → RangesCounted rects n 0 0
 unfolding sum
 none-counted rects n inside = record { inside = record { each = inside }; few = omega arith; counted = refl }
 
-module _ (rects : List ℕ) (n k count : ℕ) (c : Counted rects n k count) where
+module _ (rects : List ℕ) (n k count : ℕ) (c : RangesCounted rects n k count) where
   module _ (h : k < n) where
     pub count-fits : n ≤ 1024 → Fits w64 (count + (getD rects (4 * k + 2) 0 - getD rects (4 * k) 0 - 1))
     count-fits few = record { fits = omega (arith, c .few, bottom-small rects n k (c .inside) h) }
 
-    pub count-more : Counted rects n (k + 1) (count + (getD rects (4 * k + 2) 0 - getD rects (4 * k) 0 - 1))
+    pub count-more : RangesCounted rects n (k + 1) (count + (getD rects (4 * k + 2) 0 - getD rects (4 * k) 0 - 1))
     count-more =
         let more = rw (getD-rects n k rects noRect h) at (sum-more (λ (q : Rect). q .bottom - q .top - 1) (rectsOf n rects) k noRect (rw length-rects h)) in
         record { inside = c .inside; few = omega (arith, c .few, bottom-small rects n k (c .inside) h); counted = rw (c .counted) (sym more) }

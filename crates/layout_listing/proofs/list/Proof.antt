@@ -44,8 +44,9 @@ part-list-lines-end-2 c = search bytes-fit
 
 list-lines-requires : tie.Need-list-lines-requires
 list-lines-requires c κs =
-    let split = c .before .before .before .before .before .before .before .before .before .before .split-lines in
-    let agree = parts-agree _ _ _ _ _ _ (c .before .before .before .before .before .before .lines .given .1) (split .ensures .0) (split .ensures .1) in
+    let split : tie.After-split-lines = search needs in
+    let arm : tie.After-lines = search needs in
+    let agree = parts-agree _ _ _ _ _ _ (arm .lines .given .1) (split .split-lines .ensures .0) (split .split-lines .ensures .1) in
     (agree .0, agree .1, search needs)
 
 same-length : tie.Need-same-length

@@ -42,24 +42,24 @@ module _ (numbers tableBytes offsets rects : List ℕ) (n : ℕ) where
   abbrev span : List Line → Rect → Sourcepos
   span lines r = rectSpan (placedLines numbers tableBytes lines) offsets r
 
-  pub record RectsWritten (buffer : List ℕ) (k : ℕ) (out : List ℕ) : Type 0 where
+  pub record RectSpansWritten (buffer : List ℕ) (k : ℕ) (out : List ℕ) : Type 0 where
     pub kept : length out ≡ length buffer
     pub room : 4 * n ≤ length buffer
     pub entries : (lines : List Line) → Written (λ r. fourNumbers (span lines r)) (rectsOf n rects) 0 buffer k out
 
-  pub no-rect : (buffer : List ℕ) → 4 * n ≤ length buffer → RectsWritten buffer 0 buffer
+  pub no-rect : (buffer : List ℕ) → 4 * n ≤ length buffer → RectSpansWritten buffer 0 buffer
   no-rect buffer room = record { kept = refl; room = room; entries = λ lines. none-written (λ r. fourNumbers (span lines r)) (rectsOf n rects) 0 buffer }
 
   pub rect-inside : (k : ℕ) → k < n → ((r : Rect) → List·Memᴰ r (rectsOf n rects) → Inside (length numbers) 128 r) → Inside (length numbers) 128 (rectIn rects k)
   rect-inside k h all = rect-holds (Inside (length numbers) 128) rects n k h all
 
-  module _ (buffer out : List ℕ) (k : ℕ) (w : RectsWritten buffer k out) where
+  module _ (buffer out : List ℕ) (k : ℕ) (w : RectSpansWritten buffer k out) where
     pub rect-room : k < n → 4 * k + 4 ≤ length out
     rect-room h = omega (arith, w .kept, w .room)
 
     pub rect-next : k < n → (s : Sourcepos)
         → ((lines : List Line) → s ≡ span lines (rectIn rects k))
-        → (out′ : List ℕ) → out′ ≡ take (4 * k) out ++ fourNumbers s ++ drop (4 * k + 4) out → RectsWritten buffer (k + 1) out′
+        → (out′ : List ℕ) → out′ ≡ take (4 * k) out ++ fourNumbers s ++ drop (4 * k + 4) out → RectSpansWritten buffer (k + 1) out′
     rect-next h s told out′ g = record { kept = next [] .kept; room = w .room; entries = next } where
       next : (lines : List Line) → Written (λ r. fourNumbers (span lines r)) (rectsOf n rects) 0 buffer (k + 1) out′
       next lines =

@@ -22,7 +22,7 @@ use Rattle.representation.proofs.HeldLaws.{nobody, length-pairs, held-below, pa
 use Rattle.reading.proofs.CheckedLaws.{line-end, line-trimmed, trimmed-text}
 use Rattle.sourcepos.specs.Positions.{Sourcepos, Placed, wholeLines, noLines}
 use Rattle.sourcepos.specs.PositionsCall.{fourNumbers}
-use Rattle.positions.specs.Spans.{placedLines, drawnLines, linesBetween, rowSpans}
+use Rattle.positions.specs.Spans.{placedLines, placedDrawing, linesBetween, rowSpans}
 use Rattle.positions.specs.Needs.{StartedLines}
 use Rattle.positions.proofs.span.SpanLaws.{four-next}
 
@@ -52,7 +52,7 @@ module _ (lengths text starts : List ℕ) (s : StartedLines lengths text starts)
 -- ---- whole lines
 module _ (lengths text numbers tableBytes : List ℕ) where
   abbrev drawn : List ℕ → Placed
-  drawn columns = drawnLines numbers tableBytes lengths text columns
+  drawn columns = placedDrawing numbers tableBytes lengths text columns
 
   pub whole-told : (first last end column : ℕ) → end ≡ length (trimEnd (getD (splitText lengths text) last [])) → column ≡ getD tableBytes last 0 + end → (columns : List ℕ)
       → record {
@@ -77,22 +77,22 @@ module _ (lengths text numbers tableBytes : List ℕ) where
   abbrev span : List ℕ → Between → Sourcepos
   span columns b = linesBetween (drawn columns) (b .from) (b .to)
 
-  pub record RowsWritten (rows : Bounds) (buffer : List ℕ) (k : ℕ) (out : List ℕ) : Type 0 where
+  pub record RowSpansWritten (rows : Bounds) (buffer : List ℕ) (k : ℕ) (out : List ℕ) : Type 0 where
     pub kept : length out ≡ length buffer
     pub entries : (columns : List ℕ)
         → Written (λ b. fourNumbers (span columns b)) (between (linesHeld rows)) 0 buffer k out
 
-  pub no-row : (rows : Bounds) (buffer : List ℕ) → RowsWritten rows buffer 0 buffer
+  pub no-row : (rows : Bounds) (buffer : List ℕ) → RowSpansWritten rows buffer 0 buffer
   no-row rows buffer =
       record { kept = refl; entries = λ columns. none-written (λ b. fourNumbers (span columns b)) (between (linesHeld rows)) 0 buffer }
 
-  module _ (rows : Bounds) (buffer out : List ℕ) (k : ℕ) (rising : Rising rows) (w : RowsWritten rows buffer k out) where
+  module _ (rows : Bounds) (buffer out : List ℕ) (k : ℕ) (rising : Rising rows) (w : RowSpansWritten rows buffer k out) where
     pub row-room : k + 1 < rows .count → 4 * (rows .count - 1) ≤ length buffer → 4 * k + 4 ≤ length out
     row-room h room = omega (arith, w .kept)
 
     pub row-next : k + 1 < rows .count → 4 * (rows .count - 1) ≤ length buffer → (s : Sourcepos)
         → ((columns : List ℕ) → s ≡ linesBetween (drawn columns) (getD (rows .lines) k 0) (getD (rows .lines) (k + 1) 0))
-        → (out′ : List ℕ) → out′ ≡ take (4 * k) out ++ fourNumbers s ++ drop (4 * k + 4) out → RowsWritten rows buffer (k + 1) out′
+        → (out′ : List ℕ) → out′ ≡ take (4 * k) out ++ fourNumbers s ++ drop (4 * k + 4) out → RowSpansWritten rows buffer (k + 1) out′
     row-next h room s told out′ g = record { kept = next [] .kept; entries = next } where
       next : (columns : List ℕ)
           → Written (λ b. fourNumbers (span columns b)) (between (linesHeld rows)) 0 buffer (k + 1) out′

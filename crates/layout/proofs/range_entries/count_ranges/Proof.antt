@@ -2,14 +2,14 @@
 use Prim.Native.Nat.{_-_, _≤_}
 use mir.Facts.{fits-8-64}
 use Rattle.representation.proofs.HeldLaws.{top-first, some-height}
-use Rattle.layout.proofs.range_entries.RangesLaws.{Counted, none-counted, count-fits, count-more, all-counted}
+use Rattle.layout.proofs.range_entries.RangesLaws.{RangesCounted, none-counted, count-fits, count-more, all-counted}
 use native.Mathlib.Omega.{arith}
 use borrow.Author.Needs.{needs}
 use Rattle.layout.proofs.range_entries.count_ranges.Statement.{statement}
 use Rattle.layout.proofs.range_entries.count_ranges.Tie as tie
 
 abbrev Inv-loop : tie.InvT-loop
-Inv-loop rects n count₀ k₀ count k = (k ≤ n) × Counted rects n k count
+Inv-loop rects n count₀ k₀ count k = (k ≤ n) × RangesCounted rects n k count
 
 abbrev μ-loop : tie.MeasureT-loop
 μ-loop rects n count₀ k₀ count k = n - k

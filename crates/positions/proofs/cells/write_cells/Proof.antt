@@ -3,12 +3,12 @@ use Prim.Native.Nat.{_-_, _≤_}
 use mir.Facts.{fits-8-64}
 use native.Mathlib.Omega.{arith}
 use borrow.Author.Needs.{needs}
-use Rattle.positions.proofs.cells.RectLaws.{RectsWritten, no-rect, rect-inside, rect-room, rect-next, rects-done}
+use Rattle.positions.proofs.cells.RectLaws.{RectSpansWritten, no-rect, rect-inside, rect-room, rect-next, rects-done}
 use Rattle.positions.proofs.cells.write_cells.Statement.{statement}
 use Rattle.positions.proofs.cells.write_cells.Tie as tie
 
 abbrev Inv-loop : tie.InvT-loop
-Inv-loop numbers table-bytes offsets rects n out₀ k₀ out k = (k ≤ n) × RectsWritten numbers table-bytes offsets rects n out₀ k out
+Inv-loop numbers table-bytes offsets rects n out₀ k₀ out k = (k ≤ n) × RectSpansWritten numbers table-bytes offsets rects n out₀ k out
 
 abbrev μ-loop : tie.MeasureT-loop
 μ-loop numbers table-bytes offsets rects n out₀ k₀ out k = n - k

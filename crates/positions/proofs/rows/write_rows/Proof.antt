@@ -3,12 +3,12 @@ use Prim.Native.Nat.{_+_, _-_, _≤_}
 use native.Mathlib.Omega.{arith}
 use borrow.Author.Needs.{needs}
 use Rattle.representation.proofs.HeldLaws.{rises-here}
-use Rattle.positions.proofs.rows.RowLaws.{RowsWritten, no-row, row-inside, row-room, row-next, rows-done}
+use Rattle.positions.proofs.rows.RowLaws.{RowSpansWritten, no-row, row-inside, row-room, row-next, rows-done}
 use Rattle.positions.proofs.rows.write_rows.Statement.{statement}
 use Rattle.positions.proofs.rows.write_rows.Tie as tie
 
 abbrev Inv-loop : tie.InvT-loop
-Inv-loop lengths text starts numbers table-bytes out₀ rows k₀ out k = (k + 1 ≤ rows .count) × RowsWritten lengths text numbers table-bytes rows out₀ k out
+Inv-loop lengths text starts numbers table-bytes out₀ rows k₀ out k = (k + 1 ≤ rows .count) × RowSpansWritten lengths text numbers table-bytes rows out₀ k out
 
 abbrev μ-loop : tie.MeasureT-loop
 μ-loop lengths text starts numbers table-bytes out₀ rows k₀ out k = rows .count - k

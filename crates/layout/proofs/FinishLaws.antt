@@ -28,21 +28,21 @@ module _ (lines : List Line) (rs : List Rect) (out : LayoutArrays) (across down 
   short-told = short-agrees lines (gridOf lines) rs out ∙ rw (columns, rows, cells, ranges)
 
   module _ (short : sizesShortFor out across down n m ≡ true) where
-    pub no-room-answer : refuse 12 0 ≡ finishSizes lines rs out
+    pub finishSizes-short : refuse 12 0 ≡ finishSizes lines rs out
     unfolding finishSizes finishAnswer
-    no-room-answer = rw (short-told, short)
+    finishSizes-short = rw (short-told, short)
 
-    pub no-room-arrays : out ≡ finishArrays lines rs out
+    pub finishArrays-short : out ≡ finishArrays lines rs out
     unfolding finishArrays finishAnswer
-    no-room-arrays = rw (short-told, short)
+    finishArrays-short = rw (short-told, short)
 
   module _ (enough : sizesShortFor out across down n m ≡ false) where
-    pub finished-answer : (width : ℕ) → width ≡ length (trimmedAt lines 0)
+    pub finishSizes-accepted : (width : ℕ) → width ≡ length (trimmedAt lines 0)
         → accept (record { width = width; columns = across; rows = down; cells = n; ranges = m }) ≡ finishSizes lines rs out
     unfolding finishSizes finishAnswer
-    finished-answer width wide = rw (short-told, enough, sizes-agree lines (gridOf lines) rs, wide, columns, rows, cells, ranges)
+    finishSizes-accepted width wide = rw (short-told, enough, sizes-agree lines (gridOf lines) rs, wide, columns, rows, cells, ranges)
 
-    pub finished-arrays : (glyphs offsets : List ℕ) → Laid (gridOf lines) rs glyphs offsets → (p : Parts) → p .head ≡ orDefault 0 (headEnd (gridOf lines))
+    pub finishArrays-written : (glyphs offsets : List ℕ) → Laid (gridOf lines) rs glyphs offsets → (p : Parts) → p .head ≡ orDefault 0 (headEnd (gridOf lines))
         → p .foot ≡ orDefault 128 (footStart (gridOf lines)) → gridOf lines .height ≤ 128
         → layoutLent
         (over (columnEntries glyphs offsets (trimmedAt lines (p .head)) (p .head) (columnLines (gridOf lines) rs)) (out .columns))
@@ -51,5 +51,5 @@ module _ (lines : List Line) (rs : List Rect) (out : LayoutArrays) (across down 
         (over (allRanges offsets rs) (out .ranges))
         ≡ finishArrays lines rs out
     unfolding finishArrays finishAnswer layoutOver
-    finished-arrays glyphs offsets laid p head foot low =
+    finishArrays-written glyphs offsets laid p head foot low =
         rw (short-told, enough, arrays-agree lines (gridOf lines) rs glyphs offsets laid p head foot low, head)

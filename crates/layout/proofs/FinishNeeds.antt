@@ -31,15 +31,15 @@ use Rattle.layout.specs.Written.{LayoutWritable}
 use Rattle.layout.specs.declared.sizes.Sizes.{Sizes}
 use Rattle.layout.specs.Call.{layoutLent}
 use Rattle.layout.proofs.FoundLaws.{PartsFound, parts-head, parts-foot, parts-head-line, tops-found-some, lefts-found-some, tops-found, lefts-found, tops-found-count, lefts-found-count, tops-found-rise, lefts-found-rise, lefts-found-small, rects-found-numbered}
-use Rattle.layout.proofs.range_entries.RangeLaws.{length-ranges}
-use Rattle.layout.proofs.FinishLaws.{sizesShortFor, no-room-answer, no-room-arrays, finished-answer, finished-arrays}
+use Rattle.layout.proofs.range_entries.RangeLaws.{rangeEntries-length}
+use Rattle.layout.proofs.FinishLaws.{sizesShortFor, finishSizes-short, finishArrays-short, finishSizes-accepted, finishArrays-written}
 
 -- the entries of the ranges, two for each inner line
 allRanges-length : (offsets : List ℕ) (rs : List Rect) → length (allRanges offsets rs) ≡ 2 * innerCount rs
 unfolding sum flatMap
 allRanges-length offsets [] = refl
 allRanges-length offsets (r ∷ rs) =
-    omega (arith, length-append (rangeEntries offsets r) (allRanges offsets rs), length-ranges offsets r, allRanges-length offsets rs)
+    omega (arith, length-append (rangeEntries offsets r) (allRanges offsets rs), rangeEntries-length offsets r, allRanges-length offsets rs)
 
 module _ {a : SheetArrays} {o : Outcome} (t : TracedSheet a o) where
   pub rowLines-some : 1 ≤ length (rowLinesBelow (length (a .lengths)) (rectsIn a (o .cells)))
@@ -77,8 +77,8 @@ module _ {a : SheetArrays} {o : Outcome} (t : TracedSheet a o) where
     pub finish-refused : s .short ≡ true
         → (refuse 12 0 ≡ finishSizes (linesIn a) (rectsIn a (o .cells)) out) × (out ≡ finishArrays (linesIn a) (rectsIn a (o .cells)) out)
     finish-refused short = (
-      no-room-answer _ _ out _ _ _ _ sized-columns sized-rows sized-cells (z .rangesTold) (sym (z .shortTold) ∙ short),
-      no-room-arrays _ _ out _ _ _ _ sized-columns sized-rows sized-cells (z .rangesTold) (sym (z .shortTold) ∙ short),
+      finishSizes-short _ _ out _ _ _ _ sized-columns sized-rows sized-cells (z .rangesTold) (sym (z .shortTold) ∙ short),
+      finishArrays-short _ _ out _ _ _ _ sized-columns sized-rows sized-cells (z .rangesTold) (sym (z .shortTold) ∙ short),
     )
 
     -- room enough, and the parts found
@@ -124,7 +124,7 @@ module _ {a : SheetArrays} {o : Outcome} (t : TracedSheet a o) where
           → (accept (record { width = o .width .0; columns = s .columns; rows = s .rows; cells = s .cells; ranges = s .ranges }) ≡ finishSizes (linesIn a) (rectsIn a (o .cells)) out)
           × (layoutLent cols rows cells ranges ≡ finishArrays (linesIn a) (rectsIn a (o .cells)) out)
       finish-written trimmed all = (
-        finished-answer _ _ out _ _ _ _ sized-columns sized-rows sized-cells (z .rangesTold) sized-enough (o .width .0) (traced-rule a o t),
+        finishSizes-accepted _ _ out _ _ _ _ sized-columns sized-rows sized-cells (z .rangesTold) sized-enough (o .width .0) (traced-rule a o t),
         rw (all .0, all .1, all .2, all .3, trimmed, ← trimmed-text (splitText (a .lengths) (a .text)) (a .columns) (p .head), tops-found t (z .down) (z .across), lefts-found t (z .down) (z .across))
-            (finished-arrays _ _ out _ _ _ _ sized-columns sized-rows sized-cells (z .rangesTold) sized-enough (a .glyphs) (a .offsets) (traced-laid a o t) p (parts-head t p parts) (parts-foot t p parts) (rw (traced-height a o t) (t .sheet .fewLines))),
+            (finishArrays-written _ _ out _ _ _ _ sized-columns sized-rows sized-cells (z .rangesTold) sized-enough (a .glyphs) (a .offsets) (traced-laid a o t) p (parts-head t p parts) (parts-foot t p parts) (rw (traced-height a o t) (t .sheet .fewLines))),
       )

@@ -22,7 +22,7 @@ use Rattle.reading.proofs.ReadingLaws.{refused-by}
 use Rattle.sourcepos.specs.PositionsCall.{FlatPlaced, placed, placedContradicts, numbersTooLarge}
 use Rattle.positions.specs.Needs.{PlacedSheet}
 use Rattle.positions.specs.Parts.{placedNumber, placedRects}
-use Rattle.positions.proofs.checks.CheckLaws.{read-passed, lengths-agree, over-told}
+use Rattle.positions.proofs.checks.CheckLaws.{placedContradicts-passed, placedContradicts-lengths, numbersTooLarge-told}
 
 -- ---- a chain of two checks, as a number and as an answer
 number-passed : (a b : Bool) → _≡_ {A = ℕ} (cond a 13 (cond b 2 0)) 0 → (a ≡ false) × (b ≡ false)
@@ -57,17 +57,17 @@ module _ (w : LayoutSpace) (starts lines bytes : ℕ) (a : SheetArrays) (numbers
 
     same-rects : placedRects w starts given ≡ rectsAnswer w d
     unfolding placedRects rectsAnswer
-    same-rects = rw (passed .0, passed .1, read-passed w starts lines bytes (a .lengths) (a .columns) (a .text) numbers tableBytes (passed .0) .0)
+    same-rects = rw (passed .0, passed .1, placedContradicts-passed w starts lines bytes (a .lengths) (a .columns) (a .text) numbers tableBytes (passed .0) .0)
 
     sheet : length (a .lengths) ≤ maxLines → PlacedSheet (a .lengths) numbers tableBytes starts
     sheet few =
-        let agree = lengths-agree w starts lines bytes (a .lengths) (a .columns) (a .text) numbers tableBytes (passed .0) in
-        let over = over-told w starts lines bytes (a .lengths) (a .columns) (a .text) numbers tableBytes (passed .0) in
+        let agree = placedContradicts-lengths w starts lines bytes (a .lengths) (a .columns) (a .text) numbers tableBytes (passed .0) in
+        let over = numbersTooLarge-told w starts lines bytes (a .lengths) (a .columns) (a .text) numbers tableBytes (passed .0) in
         let low = or-neither (anyOver maxRegister numbers) (anyOver maxRegister tableBytes) (sym over ∙ passed .1) in
         record {
           numbered = record { few = omega (arith, agree); agree = omega (arith, agree); low = none-over-limit maxRegister tableBytes (low .1) };
           agree = agree .0;
-          startRoom = ltb-false starts maxLines (read-passed w starts lines bytes (a .lengths) (a .columns) (a .text) numbers tableBytes (passed .0) .1);
+          startRoom = ltb-false starts maxLines (placedContradicts-passed w starts lines bytes (a .lengths) (a .columns) (a .text) numbers tableBytes (passed .0) .1);
         }
 
     pub placed-read : Reading (rectsAnswer w d) a s

@@ -28,7 +28,7 @@ use Rattle.sourcepos.specs.PositionsCall.{fourNumbers, PositionArrays, position
 use Rattle.positions.specs.Spans.{placedDrawing, linesBetween, rowSpans, rectSpan, rectSpans}
 use Rattle.positions.specs.Needs.{PlacedSheet, PlacedCells, RowsAndCells}
 use Rattle.positions.specs.Parts.{spansShort}
-use Rattle.positions.proofs.CellLaws.{cell-span}
+use Rattle.positions.proofs.CellLaws.{cellPosition-span}
 
 module _ {a : SheetArrays} {o : Outcome} (t : TracedSheet a o) (numbers tableBytes : List ℕ) where
   abbrev g : Grid
@@ -54,7 +54,7 @@ module _ {a : SheetArrays} {o : Outcome} (t : TracedSheet a o) (numbers tableByt
       ∙ rw rows-same
 
   rectSpan-told : {r : Rect} → List·Memᴰ r rs → cellPosition drawn (layoutOf (linesIn a) g rs) (cellRead g rs r) ≡ rectSpan drawn (a .offsets) r
-  rectSpan-told m = cell-span drawn g rs (a .glyphs) (a .offsets) (traced-cover a o t) (traced-laid a o t) m
+  rectSpan-told m = cellPosition-span drawn g rs (a .glyphs) (a .offsets) (traced-cover a o t) (traced-laid a o t) m
 
   pub rectSpans-told : positionArrays drawn (layoutOf (linesIn a) g rs) .cells ≡ rectSpans drawn (a .offsets) rs
   unfolding positionArrays layoutOf

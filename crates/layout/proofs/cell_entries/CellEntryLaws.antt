@@ -60,28 +60,28 @@ pub record CellsWritten (rects : List ℕ) (n : ℕ) (rows columns : Bounds) (bu
   pub numbered : (r : Rect) → List·Memᴰ r (rectsOf n rects) → Numbered rows columns r
   pub entries : Written (cellEntry (linesHeld rows) (linesHeld columns)) (rectsOf n rects) 0 buffer k out
 
-pub no-cell : (rects : List ℕ) (n : ℕ) (rows columns : Bounds) (buffer : List ℕ) → ((r : Rect) → List·Memᴰ r (rectsOf n rects) → Numbered rows columns r)
+pub cellsWritten-none : (rects : List ℕ) (n : ℕ) (rows columns : Bounds) (buffer : List ℕ) → ((r : Rect) → List·Memᴰ r (rectsOf n rects) → Numbered rows columns r)
     → CellsWritten rects n rows columns buffer 0 buffer
-no-cell rects n rows columns buffer each =
+cellsWritten-none rects n rows columns buffer each =
     record { numbered = each; entries = none-written (cellEntry (linesHeld rows) (linesHeld columns)) (rectsOf n rects) 0 buffer }
 
 module _ (rects : List ℕ) (n : ℕ) (rows columns : Bounds) (buffer out : List ℕ) (k : ℕ) (w : CellsWritten rects n rows columns buffer k out) where
-  pub cell-room : k < n → 5 * n ≤ length buffer → 5 * k + 5 ≤ length out
-  cell-room h room = omega (arith, w .entries .kept)
+  pub cellsWritten-room : k < n → 5 * n ≤ length buffer → 5 * k + 5 ≤ length out
+  cellsWritten-room h room = omega (arith, w .entries .kept)
 
-  pub cell-numbered : k < n → Numbered rows columns (rectIn rects k)
-  cell-numbered h = rect-holds (Numbered rows columns) rects n k h (w .numbered)
+  pub cellsWritten-numbered : k < n → Numbered rows columns (rectIn rects k)
+  cellsWritten-numbered h = rect-holds (Numbered rows columns) rects n k h (w .numbered)
 
-  pub cell-next : k < n → (out′ : List ℕ) → 5 * n ≤ length buffer
+  pub cellsWritten-next : k < n → (out′ : List ℕ) → 5 * n ≤ length buffer
       → out′ ≡ take (5 * k) out ++ tableEntry (λ _. getD rects (4 * k + 1) 0) (linesHeld rows) (linesHeld columns) (rectIn rects k) ++ drop (5 * k + 5) out
       → CellsWritten rects n rows columns buffer (k + 1) out′
-  cell-next h out′ room e =
+  cellsWritten-next h out′ room e =
       let entry = cellEntry (linesHeld rows) (linesHeld columns) in
       record {
         numbered = w .numbered;
         entries = entry-next entry (λ r. refl) rects n k h buffer out out′ room (w .entries) e;
       }
 
-  pub cells-done : n ≤ k → out ≡ over (cellEntries (linesHeld rows) (linesHeld columns) (rectsOf n rects)) buffer
-  cells-done h =
+  pub cellsWritten-all : n ≤ k → out ≡ over (cellEntries (linesHeld rows) (linesHeld columns) (rectsOf n rects)) buffer
+  cellsWritten-all h =
       all-written (cellEntry (linesHeld rows) (linesHeld columns)) (rectsOf n rects) 0 buffer out k (rw length-rects h) (w .entries) ∙ rw zero-add

@@ -24,5 +24,5 @@ inner-small (r ∷ rs) all =
     omega (arith, mul-suc 128 (length rs), all r (List·Memᴰ·head refl) .tall, inner-small rs (λ q m. all q (List·Memᴰ·tail m)))
 
 module _ (height width n : ℕ) (rects : List ℕ) (h : RectsMeasurable height width n rects) where
-  pub few-ranges : (m : ℕ) → m ≡ innerCount (rectsOf n rects) → Fits w64 (2 * m)
-  few-ranges m counted = fits-under w64 (2 * m) 262145 (omega (arith, inner-small (rectsOf n rects) (h .inside), length-rects n rects, h .few)) tt
+  pub innerCount-fits : (m : ℕ) → m ≡ innerCount (rectsOf n rects) → Fits w64 (2 * m)
+  innerCount-fits m counted = fits-under w64 (2 * m) 262145 (omega (arith, inner-small (rectsOf n rects) (h .inside), length-rects n rects, h .few)) tt

@@ -107,11 +107,11 @@ module _ (lengths text cols rows cells : List ℕ) (few : length lengths ≤ 128
         ∙ ap (λ (ls : List Line). listed ls (readLayout ls)) (sheet-lines lengths text),
   )
 
-  pub layout-told : (length cols ≡ 254) × (length rows ≡ 381) × (length cells ≡ 5120) → (r : LayoutAnswer) (cols′ rows′ cells′ ranges′ : List ℕ)
+  pub layoutTold-call : (length cols ≡ 254) × (length rows ≡ 381) × (length cells ≡ 5120) → (r : LayoutAnswer) (cols′ rows′ cells′ ranges′ : List ℕ)
       → layoutAnswerOf r ≡ layoutAnswer freshSpace (sheetOf lengths text) (layoutLent cols rows cells (zeroes 32768))
       → layoutLent cols′ rows′ cells′ ranges′ ≡ layoutAfterwards freshSpace (sheetOf lengths text) (layoutLent cols rows cells (zeroes 32768))
       → LayoutTold lengths text cols′ rows′ cells′ r
-  layout-told rooms r cols′ rows′ cells′ ranges′ e f =
+  layoutTold-call rooms r cols′ rows′ cells′ ranges′ e f =
       as-told (layoutLent cols′ rows′ cells′ ranges′) r
       (told freshSpace (sheetOf lengths text) (layoutLent cols rows cells (zeroes 32768)) (sheet-agrees lengths text few whole) fresh-enough
       (record { columns = rooms .0; rows = rooms .1; cells = rooms .2; ranges = length-zeroes 32768 }) r (layoutLent cols′ rows′ cells′ ranges′) e f)
@@ -126,9 +126,9 @@ module _ (lengths text cols rows cells : List ℕ) (r : LayoutAnswer) where
     pub layoutTold-few : (n : ℕ) → 131072 ≤ n → (across ≤ 127) × (tall ≤ 127) × (count ≤ 1024) × (131072 ≤ n)
     layoutTold-few n room = (accepted .0, accepted .1, accepted .2, room)
 
-    pub table-listed : {out : List ℕ} {end : ℕ} → Prints out end (tablePrinted (width .0) (length lengths) across tall count cols rows cells) → Prints out end (listedLines (splitText lengths text))
-    table-listed p = prints-as p (accepted .3)
+    pub layoutTold-table : {out : List ℕ} {end : ℕ} → Prints out end (tablePrinted (width .0) (length lengths) across tall count cols rows cells) → Prints out end (listedLines (splitText lengths text))
+    layoutTold-table p = prints-as p (accepted .3)
 
-  pub refused-listed : (number place : ℕ) → r ≡ Refused number place → LayoutTold lengths text cols rows cells r → {out : List ℕ} {end : ℕ} → Prints out end (refusedLine number place)
+  pub layoutTold-refused : (number place : ℕ) → r ≡ Refused number place → LayoutTold lengths text cols rows cells r → {out : List ℕ} {end : ℕ} → Prints out end (refusedLine number place)
       → Prints out end (listedLines (splitText lengths text))
-  refused-listed number place e h p = prints-as p (rw e at h)
+  layoutTold-refused number place e h p = prints-as p (rw e at h)

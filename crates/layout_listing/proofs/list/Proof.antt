@@ -1,7 +1,7 @@
 -- `layout_listing::list` meets its contract: each return by what splitting tells.
 use Rattle.printing.proofs.PutLaws.{prints-as}
 use Rattle.input_lines.proofs.SheetLaws.{lines-fit, bytes-fit, parts-agree}
-use Rattle.layout_listing.proofs.InputLaws.{large-listed, held-listed}
+use Rattle.layout_listing.proofs.InputLaws.{listing-large, listing-held}
 use borrow.Author.Needs.{needs}
 use Rattle.layout_listing.proofs.list.Statement.{statement}
 use Rattle.layout_listing.proofs.list.Tie as tie
@@ -53,13 +53,13 @@ same-length : tie.Need-same-length
 same-length c = search needs
 
 returns : tie.Need-returns
-returns c = prints-as (c .before .before .refused .ensures) (search large-listed)
+returns c = prints-as (c .before .before .refused .ensures) (search listing-large)
 
 same-length-2 : tie.Need-same-length-2
 same-length-2 c = search needs
 
 returns-2 : tie.Need-returns-2
-returns-2 c = prints-as (c .before .before .list-lines .ensures) (search held-listed)
+returns-2 c = prints-as (c .before .before .list-lines .ensures) (search listing-held)
 
 pub list-spec : {M : Type 1} → statement M
 list-spec =

@@ -1,6 +1,4 @@
 -- `positions::finish_cell` meets its contract: 13, or the position of the rectangle.
-use native.Mathlib.Omega.{arith}
-use denote.Ref.{now}
 use mir.Facts.{fits-8-64}
 use Rattle.positions.proofs.cells.RectLaws.{rect-inside}
 use Rattle.positions.proofs.FinishLaws.{spanAt-past, spanAt-found}

@@ -1,7 +1,7 @@
 -- `layout::cell_entries::write_cells` meets its contract. The invariant: the entries of the first k cells are written.
 use Prim.Native.Nat.{_-_, _≤_}
 use mir.Facts.{fits-widen}
-use Rattle.layout.proofs.cell_entries.CellEntryLaws.{CellsWritten, no-cell, cell-room, cell-numbered, cell-next, cells-done}
+use Rattle.layout.proofs.cell_entries.CellEntryLaws.{CellsWritten, cellsWritten-none, cellsWritten-room, cellsWritten-numbered, cellsWritten-next, cellsWritten-all}
 use native.Mathlib.Omega.{arith}
 use borrow.Author.Needs.{needs}
 use Rattle.layout.proofs.cell_entries.write_cells.Statement.{statement}
@@ -14,7 +14,7 @@ abbrev μ-loop : tie.MeasureT-loop
 μ-loop rects n rows columns out₀ k₀ out k = n - k
 
 loop-holds : tie.Need-loop-holds Inv-loop μ-loop
-loop-holds c = search (needs, no-cell)
+loop-holds c = search (needs, cellsWritten-none)
 
 mul-left : tie.Need-mul-left Inv-loop μ-loop
 mul-left c = omega arith
@@ -29,7 +29,7 @@ cast-left : tie.Need-cast-left Inv-loop μ-loop
 cast-left c = fits-widen tt (c .shared-slice-known2 .given _)
 
 write-spans-requires : tie.Need-write-spans-requires Inv-loop μ-loop
-write-spans-requires c κs = ((omega arith, omega arith, search cell-room), (search needs, search needs, search cell-numbered))
+write-spans-requires c κs = ((omega arith, omega arith, search cellsWritten-room), (search needs, search needs, search cellsWritten-numbered))
 
 add-k : tie.Need-add-k Inv-loop μ-loop
 add-k c = omega arith
@@ -38,13 +38,13 @@ loop-less : tie.Need-loop-less Inv-loop μ-loop
 loop-less c = omega arith
 
 loop-again : tie.Need-loop-again Inv-loop μ-loop
-loop-again c = (search needs, search cell-next)
+loop-again c = (search needs, search cellsWritten-next)
 
 same-length : tie.Need-same-length Inv-loop μ-loop
 same-length c = search needs
 
 returns : tie.Need-returns Inv-loop μ-loop
-returns c = search (needs, cells-done)
+returns c = search (needs, cellsWritten-all)
 
 pub write-cells-spec : {M : Type 1} → statement M
 write-cells-spec =

@@ -1,5 +1,5 @@
 -- `layout_listing::lines::lines_layout` meets its contract: what the layout call tells.
-use Rattle.layout_listing.proofs.lines.ListedLaws.{layout-told}
+use Rattle.layout_listing.proofs.lines.ListedLaws.{layoutTold-call}
 use borrow.Author.Needs.{needs}
 use Rattle.layout_listing.proofs.lines.lines_layout.Statement.{statement}
 use Rattle.layout_listing.proofs.lines.lines_layout.Tie as tie
@@ -51,7 +51,7 @@ returns c =
     let laid : tie.After-layout = search needs in
     let a = start laid .args in
     let asked = start laid .pre in
-    layout-told (a .lengths .now) (a .text .now) (a .cols .now) (a .rows .now) (a .cells .now) (asked .0 .0) (asked .0 .1) (asked .1) (laid .layout .result) _ _ _ _
+    layoutTold-call (a .lengths .now) (a .text .now) (a .cols .now) (a .rows .now) (a .cells .now) (asked .0 .0) (asked .0 .1) (asked .1) (laid .layout .result) _ _ _ _
     (laid .layout .ensures .0) (laid .layout .ensures .1)
 
 pub lines-layout-spec : {M : Type 1} → statement M

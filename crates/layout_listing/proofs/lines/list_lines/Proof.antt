@@ -1,5 +1,5 @@
 -- `layout_listing::lines::list_lines` meets its contract: each return by what the answer tells.
-use Rattle.layout_listing.proofs.lines.ListedLaws.{layoutTold-few, table-listed, refused-listed}
+use Rattle.layout_listing.proofs.lines.ListedLaws.{layoutTold-few, layoutTold-table, layoutTold-refused}
 use borrow.Author.Needs.{needs}
 use Rattle.layout_listing.proofs.lines.list_lines.Statement.{statement}
 use Rattle.layout_listing.proofs.lines.list_lines.Tie as tie
@@ -45,13 +45,13 @@ same-length : tie.Need-same-length
 same-length c = search needs
 
 returns : tie.Need-returns
-returns c = search (needs, refused-listed)
+returns c = search (needs, layoutTold-refused)
 
 same-length-2 : tie.Need-same-length-2
 same-length-2 c = search needs
 
 returns-2 : tie.Need-returns-2
-returns-2 c = search (needs, table-listed)
+returns-2 c = search (needs, layoutTold-table)
 
 pub list-lines-spec : {M : Type 1} → statement M
 list-lines-spec =

@@ -1,6 +1,6 @@
 -- `positions::cells::rect_position` meets its contract: each return by its law.
 use Rattle.positions.proofs.span.SpanLaws.{table-byte-low}
-use Rattle.positions.proofs.cells.RectLaws.{rect-lined, rect-empty}
+use Rattle.positions.proofs.cells.RectLaws.{rectSpan-lined, rectSpan-empty}
 use borrow.Author.Needs.{needs}
 use Rattle.positions.proofs.cells.rect_position.Statement.{statement}
 use Rattle.positions.proofs.cells.rect_position.Tie as tie
@@ -12,7 +12,7 @@ no-lines-requires : tie.Need-no-lines-requires
 no-lines-requires c κs = search needs
 
 returns : tie.Need-returns
-returns c = search (needs, rect-empty)
+returns c = search (needs, rectSpan-empty)
 
 sub-last : tie.Need-sub-last
 sub-last c = search needs
@@ -60,7 +60,7 @@ shared-slice-read-end-line : tie.Need-shared-slice-read-end-line
 shared-slice-read-end-line c = search needs
 
 returns-2 : tie.Need-returns-2
-returns-2 c = search (needs, rect-lined)
+returns-2 c = search (needs, rectSpan-lined)
 
 pub rect-position-spec : {M : Type 1} → statement M
 rect-position-spec =

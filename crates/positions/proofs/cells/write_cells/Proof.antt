@@ -3,7 +3,7 @@ use Prim.Native.Nat.{_-_, _≤_}
 use mir.Facts.{fits-8-64}
 use native.Mathlib.Omega.{arith}
 use borrow.Author.Needs.{needs}
-use Rattle.positions.proofs.cells.RectLaws.{RectSpansWritten, no-rect, rect-inside, rect-room, rect-next, rects-done}
+use Rattle.positions.proofs.cells.RectLaws.{RectSpansWritten, rectSpansWritten-none, rect-inside, rectSpansWritten-room, rectSpansWritten-next, rectSpansWritten-all}
 use Rattle.positions.proofs.cells.write_cells.Statement.{statement}
 use Rattle.positions.proofs.cells.write_cells.Tie as tie
 
@@ -14,7 +14,7 @@ abbrev μ-loop : tie.MeasureT-loop
 μ-loop numbers table-bytes offsets rects n out₀ k₀ out k = n - k
 
 loop-holds : tie.Need-loop-holds Inv-loop μ-loop
-loop-holds c = search (needs, no-rect)
+loop-holds c = search (needs, rectSpansWritten-none)
 
 mul-top : tie.Need-mul-top Inv-loop μ-loop
 mul-top c = omega arith
@@ -68,7 +68,7 @@ mul-write-sourcepos : tie.Need-mul-write-sourcepos Inv-loop μ-loop
 mul-write-sourcepos c = omega arith
 
 write-sourcepos-requires : tie.Need-write-sourcepos-requires Inv-loop μ-loop
-write-sourcepos-requires c κs = search rect-room
+write-sourcepos-requires c κs = search rectSpansWritten-room
 
 add-k : tie.Need-add-k Inv-loop μ-loop
 add-k c = omega arith
@@ -80,13 +80,13 @@ loop-again : tie.Need-loop-again Inv-loop μ-loop
 loop-again c =
     let found : tie.After-rect-position Inv-loop μ-loop = search needs in
     let wrote : tie.After-write-sourcepos Inv-loop μ-loop = search needs in
-    (search needs, rect-next _ _ _ _ _ _ _ _ (search needs) (search needs) _ (found .rect-position .ensures) _ (wrote .write-sourcepos .ensures))
+    (search needs, rectSpansWritten-next _ _ _ _ _ _ _ _ (search needs) (search needs) _ (found .rect-position .ensures) _ (wrote .write-sourcepos .ensures))
 
 same-length : tie.Need-same-length Inv-loop μ-loop
 same-length c = search needs
 
 returns : tie.Need-returns Inv-loop μ-loop
-returns c = search (needs, rects-done)
+returns c = search (needs, rectSpansWritten-all)
 
 pub write-cells-spec : {M : Type 1} → statement M
 write-cells-spec =

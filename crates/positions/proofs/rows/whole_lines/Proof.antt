@@ -1,6 +1,6 @@
 -- `positions::rows::whole_lines` meets its contract: from its calls.
-use Rattle.positions.proofs.span.SpanLaws.{table-byte-low, column-fits}
-use Rattle.positions.proofs.rows.RowLaws.{whole-told}
+use Rattle.positions.proofs.span.SpanLaws.{table-byte-low, table-byte-next-fits}
+use Rattle.positions.proofs.rows.RowLaws.{wholeLines-told}
 use borrow.Author.Needs.{needs}
 use Rattle.positions.proofs.rows.whole_lines.Statement.{statement}
 use Rattle.positions.proofs.rows.whole_lines.Tie as tie
@@ -21,7 +21,7 @@ shared-slice-read-start-column : tie.Need-shared-slice-read-start-column
 shared-slice-read-start-column c = search needs
 
 add-start-column : tie.Need-add-start-column
-add-start-column c = search (needs, column-fits)
+add-start-column c = search (needs, table-byte-next-fits)
 
 mul-end-line : tie.Need-mul-end-line
 mul-end-line c = search needs
@@ -39,7 +39,7 @@ source-byte-requires : tie.Need-source-byte-requires
 source-byte-requires c κs = search (needs, table-byte-low)
 
 returns : tie.Need-returns
-returns c = search (needs, whole-told)
+returns c = search (needs, wholeLines-told)
 
 pub whole-lines-spec : {M : Type 1} → statement M
 whole-lines-spec =

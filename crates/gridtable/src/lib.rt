@@ -16,7 +16,7 @@ use replies::layouts::LayoutReply;
 use replies::layouts::layout_reply;
 ghost use mathlib.Core.Path.{_≡_};
 ghost use Rattle.grid.specs.LayoutCall.{layoutAnswer, layoutAfterwards, spaces, drawing};
-ghost use Rattle.layout.specs.Call.{arrays};
+ghost use Rattle.layout.specs.Call.{layoutLent};
 ghost use Rattle.replies.specs.LayoutReply.{layoutReplyOf};
 
 // layout::layout.
@@ -40,8 +40,8 @@ pub extern "C" fn grid_layout(
     ensures { λ r.
         let space = spaces (now (glyphs .entry)) (now (offsets .entry)) (now (down .entry)) (now (right .entry)) (now (rects .entry)) in
         let given = drawing lines bytes (now (lengths .entry)) (now (columns .entry)) (now (text .entry)) in
-        let before = arrays (now (cols .entry)) (now (rows .entry)) (now (cells .entry)) (now (ranges .entry)) in
-        let after = arrays (now (cols .exit)) (now (rows .exit)) (now (cells .exit)) (now (ranges .exit)) in
+        let before = layoutLent (now (cols .entry)) (now (rows .entry)) (now (cells .entry)) (now (ranges .entry)) in
+        let after = layoutLent (now (cols .exit)) (now (rows .exit)) (now (cells .exit)) (now (ranges .exit)) in
         ⌜ (r ≡ layoutReplyOf (layoutAnswer space given before))
         × (after ≡ layoutAfterwards space given before) ⌝ }
 {

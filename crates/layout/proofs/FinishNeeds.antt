@@ -26,20 +26,20 @@ use Rattle.reading.specs.Call.{SheetArrays, linesIn, rectsIn, TracedSheet}
 use Rattle.reading.specs.declared.Outcome.{Outcome}
 use Rattle.reading.proofs.CheckedLaws.{trimmed-text}
 use Rattle.reading.proofs.SheetLaws.{traced-accepted, traced-holds, traced-lines, traced-height, traced-width, traced-rule, traced-short, traced-inside, traced-edges, traced-room, traced-laid}
-use Rattle.layout.specs.Sized.{Measurable, Sized}
-use Rattle.layout.specs.Written.{Writable}
+use Rattle.layout.specs.Sized.{RectsMeasurable, LayoutSized}
+use Rattle.layout.specs.Written.{LayoutWritable}
 use Rattle.layout.specs.declared.sizes.Sizes.{Sizes}
-use Rattle.layout.specs.Call.{arrays}
+use Rattle.layout.specs.Call.{layoutLent}
 use Rattle.layout.proofs.FoundLaws.{PartsFound, parts-head, parts-foot, parts-head-line, tops-found-some, lefts-found-some, tops-found, lefts-found, tops-found-count, lefts-found-count, tops-found-rise, lefts-found-rise, lefts-found-small, rects-found-numbered}
-use Rattle.layout.proofs.range_entries.RangeLaws.{length-ranges}
-use Rattle.layout.proofs.FinishLaws.{shortFor, no-room-answer, no-room-arrays, finished-answer, finished-arrays}
+use Rattle.layout.proofs.range_entries.RangeLaws.{rangeEntries-length}
+use Rattle.layout.proofs.FinishLaws.{sizesShortFor, finishSizes-short, finishArrays-short, finishSizes-accepted, finishArrays-written}
 
 -- the entries of the ranges, two for each inner line
 allRanges-length : (offsets : List ℕ) (rs : List Rect) → length (allRanges offsets rs) ≡ 2 * innerCount rs
 unfolding sum flatMap
 allRanges-length offsets [] = refl
 allRanges-length offsets (r ∷ rs) =
-    omega (arith, length-append (rangeEntries offsets r) (allRanges offsets rs), length-ranges offsets r, allRanges-length offsets rs)
+    omega (arith, length-append (rangeEntries offsets r) (allRanges offsets rs), rangeEntries-length offsets r, allRanges-length offsets rs)
 
 module _ {a : SheetArrays} {o : Outcome} (t : TracedSheet a o) where
   pub rowLines-some : 1 ≤ length (rowLinesBelow (length (a .lengths)) (rectsIn a (o .cells)))
@@ -50,7 +50,7 @@ module _ {a : SheetArrays} {o : Outcome} (t : TracedSheet a o) where
   unfolding columnLines
   columnLines-some = rw (traced-width a o t) at (columns-some (linesIn a) (rectsIn a (o .cells)) (a .glyphs) (a .offsets) (traced-accepted a o t) (traced-holds a o t))
 
-  pub traced-measurable : Measurable (length (a .lengths)) (o .width .0) (o .cells) (a .rects)
+  pub traced-measurable : RectsMeasurable (length (a .lengths)) (o .width .0) (o .cells) (a .rects)
   traced-measurable =
       record {
         few = t .through .few;
@@ -64,7 +64,7 @@ module _ {a : SheetArrays} {o : Outcome} (t : TracedSheet a o) where
       }
 
   module _ (out : LayoutArrays) {s : Sizes}
-      (z : Sized (length (a .lengths)) (o .width .0) (o .cells) (a .rects) (length (out .columns)) (length (out .rows)) (length (out .cells)) (length (out .ranges)) s) where
+      (z : LayoutSized (length (a .lengths)) (o .width .0) (o .cells) (a .rects) (length (out .columns)) (length (out .rows)) (length (out .cells)) (length (out .ranges)) s) where
     sized-columns : s .columns ≡ length (columnLines (gridOf (linesIn a)) (rectsIn a (o .cells))) - 1
     sized-columns = z .columnsTold ∙ lefts-found-count t (z .down) (z .across)
 
@@ -77,13 +77,13 @@ module _ {a : SheetArrays} {o : Outcome} (t : TracedSheet a o) where
     pub finish-refused : s .short ≡ true
         → (refuse 12 0 ≡ finishSizes (linesIn a) (rectsIn a (o .cells)) out) × (out ≡ finishArrays (linesIn a) (rectsIn a (o .cells)) out)
     finish-refused short = (
-      no-room-answer _ _ out _ _ _ _ sized-columns sized-rows sized-cells (z .rangesTold) (sym (z .shortTold) ∙ short),
-      no-room-arrays _ _ out _ _ _ _ sized-columns sized-rows sized-cells (z .rangesTold) (sym (z .shortTold) ∙ short),
+      finishSizes-short _ _ out _ _ _ _ sized-columns sized-rows sized-cells (z .rangesTold) (sym (z .shortTold) ∙ short),
+      finishArrays-short _ _ out _ _ _ _ sized-columns sized-rows sized-cells (z .rangesTold) (sym (z .shortTold) ∙ short),
     )
 
     -- room enough, and the parts found
     module _ (enough : s .short ≡ false) (p : Parts) (parts : PartsFound a o p) where
-      sized-enough : shortFor out (s .columns) (s .rows) (s .cells) (s .ranges) ≡ false
+      sized-enough : sizesShortFor out (s .columns) (s .rows) (s .cells) (s .ranges) ≡ false
       sized-enough = sym (z .shortTold) ∙ enough
 
       sized-room : (2 * s .columns ≤ length (out .columns)) × (3 * s .rows ≤ length (out .rows)) × (5 * s .cells ≤ length (out .cells)) × (2 * s .ranges ≤ length (out .ranges))
@@ -93,7 +93,7 @@ module _ {a : SheetArrays} {o : Outcome} (t : TracedSheet a o) where
           let f2 = or-neither _ _ (f1 .0) in
           (ltb-false _ _ (f2 .0), ltb-false _ _ (f2 .1), ltb-false _ _ (f1 .1), ltb-false _ _ (f0 .1))
 
-      pub finish-writable : Writable (a .rects) (a .glyphs) (a .offsets) (o .cells) (s .tops) (s .lefts) p out
+      pub finish-writable : LayoutWritable (a .rects) (a .glyphs) (a .offsets) (o .cells) (s .tops) (s .lefts) p out
       finish-writable =
           record {
             few = t .through .few;
@@ -122,9 +122,9 @@ module _ {a : SheetArrays} {o : Outcome} (t : TracedSheet a o) where
           × (cells ≡ over (cellEntries (linesHeld (s .tops)) (linesHeld (s .lefts)) (rectsIn a (o .cells))) (out .cells))
           × (ranges ≡ over (allRanges (a .offsets) (rectsIn a (o .cells))) (out .ranges))
           → (accept (record { width = o .width .0; columns = s .columns; rows = s .rows; cells = s .cells; ranges = s .ranges }) ≡ finishSizes (linesIn a) (rectsIn a (o .cells)) out)
-          × (arrays cols rows cells ranges ≡ finishArrays (linesIn a) (rectsIn a (o .cells)) out)
+          × (layoutLent cols rows cells ranges ≡ finishArrays (linesIn a) (rectsIn a (o .cells)) out)
       finish-written trimmed all = (
-        finished-answer _ _ out _ _ _ _ sized-columns sized-rows sized-cells (z .rangesTold) sized-enough (o .width .0) (traced-rule a o t),
+        finishSizes-accepted _ _ out _ _ _ _ sized-columns sized-rows sized-cells (z .rangesTold) sized-enough (o .width .0) (traced-rule a o t),
         rw (all .0, all .1, all .2, all .3, trimmed, ← trimmed-text (splitText (a .lengths) (a .text)) (a .columns) (p .head), tops-found t (z .down) (z .across), lefts-found t (z .down) (z .across))
-            (finished-arrays _ _ out _ _ _ _ sized-columns sized-rows sized-cells (z .rangesTold) sized-enough (a .glyphs) (a .offsets) (traced-laid a o t) p (parts-head t p parts) (parts-foot t p parts) (rw (traced-height a o t) (t .sheet .fewLines))),
+            (finishArrays-written _ _ out _ _ _ _ sized-columns sized-rows sized-cells (z .rangesTold) sized-enough (a .glyphs) (a .offsets) (traced-laid a o t) p (parts-head t p parts) (parts-foot t p parts) (rw (traced-height a o t) (t .sheet .fewLines))),
       )

@@ -11,7 +11,7 @@ use Rattle.representation.specs.declared.Bounds.{Bounds}
 use Rattle.representation.specs.declared.Parts.{Parts}
 
 -- n rectangles with the lines at their edges, the slots they lie on, and room in the four arrays
-pub record Writable (rects glyphs offsets : List ℕ) (n : ℕ) (tops lefts : Bounds) (parts : Parts) (out : LayoutArrays) : Type 0 where
+pub record LayoutWritable (rects glyphs offsets : List ℕ) (n : ℕ) (tops lefts : Bounds) (parts : Parts) (out : LayoutArrays) : Type 0 where
   pub few : n ≤ 1024
   pub rectRoom : 4 * n ≤ length rects
   pub glyphRoom : slotSpace ≤ length glyphs

@@ -9,8 +9,8 @@ ghost use mathlib.Core.Path.{_≡_};
 ghost use Rattle.grid.specs.Answer.{over};
 ghost use Rattle.representation.specs.Arrays.{rectsOf};
 ghost use Rattle.representation.specs.LayoutEntries.{linesHeld, columnEntries, rowEntries, cellEntries, allRanges};
-ghost use Rattle.layout.specs.Call.{arrays};
-ghost use Rattle.layout.specs.Written.{Writable};
+ghost use Rattle.layout.specs.Call.{layoutLent};
+ghost use Rattle.layout.specs.Written.{LayoutWritable};
 
 // Writes the four arrays.
 pub fn write_layout(
@@ -27,8 +27,8 @@ pub fn write_layout(
     cells: &mut [u16],
     ranges: &mut [u16],
 )
-    requires { let out = arrays (now cols) (now rows) (now cells) (now ranges) in
-        ⌜ Writable (now rects) (now glyphs) (now offsets) n tops lefts parts out ⌝ }
+    requires { let out = layoutLent (now cols) (now rows) (now cells) (now ranges) in
+        ⌜ LayoutWritable (now rects) (now glyphs) (now offsets) n tops lefts parts out ⌝ }
     ensures { λ _.
         let rs = rectsOf n (now (rects .entry)) in
         let entries = columnEntries (now (glyphs .entry)) (now (offsets .entry)) (now (line .entry)) (parts .head) (linesHeld lefts) in

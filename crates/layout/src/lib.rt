@@ -24,18 +24,19 @@ use crate::sizes::measure;
 use reading::Outcome;
 use reading::read;
 use reading::trimmed_line;
+use text::Column;
 ghost use mathlib.Core.Path.{_≡_};
 ghost use Rattle.grid.specs.Flat.{linesFrom};
 ghost use Rattle.grid.specs.LayoutCall.{layoutAnswer, layoutAfterwards, spaces, drawing};
 ghost use Rattle.representation.specs.LayoutParts.{finishSizes, finishArrays};
 ghost use Rattle.representation.specs.Arrays.{rectsOf};
 ghost use Rattle.reading.specs.Call.{sheetOf, TracedSheet};
-ghost use Rattle.layout.specs.Call.{answerOf, arrays};
+ghost use Rattle.layout.specs.Call.{layoutAnswerOf, layoutLent};
 
 // The width of the drawing and how many columns, rows, cells and ranges were written; or a refusal.
 pub enum LayoutAnswer {
     Accepted {
-        width: usize,
+        width: Column,
         columns: usize,
         rows: usize,
         cells: usize,
@@ -63,11 +64,11 @@ fn finish(
 ) -> LayoutAnswer
     requires { ⌜ TracedSheet (sheetOf (now lengths) (now columns) (now text) (now glyphs) (now offsets) (now rects)) outcome ⌝ }
     ensures { λ r.
-        let before = arrays (now (cols .entry)) (now (rows .entry)) (now (cells .entry)) (now (ranges .entry)) in
-        let after = arrays (now (cols .exit)) (now (rows .exit)) (now (cells .exit)) (now (ranges .exit)) in
+        let before = layoutLent (now (cols .entry)) (now (rows .entry)) (now (cells .entry)) (now (ranges .entry)) in
+        let after = layoutLent (now (cols .exit)) (now (rows .exit)) (now (cells .exit)) (now (ranges .exit)) in
         let rs = rectsOf (outcome .cells) (now (rects .entry)) in
         let drawn = linesFrom (now (lengths .entry)) (now (columns .entry)) (now (text .entry)) in
-        ⌜ (answerOf r ≡ finishSizes drawn rs before) × (after ≡ finishArrays drawn rs before) ⌝ }
+        ⌜ (layoutAnswerOf r ≡ finishSizes drawn rs before) × (after ≡ finishArrays drawn rs before) ⌝ }
 {
     let height = lengths.len();
     let width = outcome.width;
@@ -107,7 +108,7 @@ fn finish(
         ranges,
     );
     LayoutAnswer::Accepted {
-        width: width.0,
+        width,
         columns: sizes.columns,
         rows: sizes.rows,
         cells: sizes.cells,
@@ -136,9 +137,9 @@ pub fn layout(
     ensures { λ r.
         let space = spaces (now (glyphs .entry)) (now (offsets .entry)) (now (down .entry)) (now (right .entry)) (now (rects .entry)) in
         let given = drawing lines bytes (now (lengths .entry)) (now (columns .entry)) (now (text .entry)) in
-        let before = arrays (now (cols .entry)) (now (rows .entry)) (now (cells .entry)) (now (ranges .entry)) in
-        let after = arrays (now (cols .exit)) (now (rows .exit)) (now (cells .exit)) (now (ranges .exit)) in
-        ⌜ (answerOf r ≡ layoutAnswer space given before)
+        let before = layoutLent (now (cols .entry)) (now (rows .entry)) (now (cells .entry)) (now (ranges .entry)) in
+        let after = layoutLent (now (cols .exit)) (now (rows .exit)) (now (cells .exit)) (now (ranges .exit)) in
+        ⌜ (layoutAnswerOf r ≡ layoutAnswer space given before)
         × (after ≡ layoutAfterwards space given before) ⌝ }
 {
     let outcome = read(

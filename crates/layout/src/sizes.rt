@@ -4,7 +4,7 @@ use crate::bounds::row_bounds;
 use crate::range_entries::count_ranges;
 use representation::Bounds;
 use text::Column;
-ghost use Rattle.layout.specs.Sized.{Measurable, Sized};
+ghost use Rattle.layout.specs.Sized.{RectsMeasurable, LayoutSized};
 
 // How many columns, rows, cells and ranges; short where an array has too little room for them.
 pub struct Sizes {
@@ -28,8 +28,8 @@ pub fn measure(
     cells: usize,
     ranges: usize,
 ) -> Sizes
-    requires { ⌜ Measurable height (width .0) n (now rects) ⌝ }
-    ensures { λ r. ⌜ Sized height (width .0) n (now (rects .entry)) cols rows cells ranges r ⌝ }
+    requires { ⌜ RectsMeasurable height (width .0) n (now rects) ⌝ }
+    ensures { λ r. ⌜ LayoutSized height (width .0) n (now (rects .entry)) cols rows cells ranges r ⌝ }
 {
     let tops = row_bounds(rects, n, height);
     let lefts = col_bounds(rects, n, width);

@@ -15,24 +15,24 @@ use Rattle.input_lines.proofs.SplitLaws.{long-input}
 use Rattle.input_lines.proofs.SheetLaws.{too-large-refused, split-held}
 use Rattle.layout_listing.specs.Listed.{listedLines}
 
-pub large-listed : (input lengths text : List ℕ) (r : Split) → r ≡ TooLarge → Splits input lengths text r → refusedLine 2 0 ≡ listing input
+pub listing-large : (input lengths text : List ℕ) (r : Split) → r ≡ TooLarge → Splits input lengths text r → refusedLine 2 0 ≡ listing input
 unfolding listing
-large-listed input lengths text r e h =
+listing-large input lengths text r e h =
     let large : drawingTooLarge (linesRead input) ≡ true = rw e at h in
     rw (too-large-refused (linesRead input) large)
 
 -- whatever follows the first 32,897 bytes, the listing is the same
-pub long-listed : (input : List ℕ) → 32896 < length input → refusedLine 2 0 ≡ listing input
+pub listing-long : (input : List ℕ) → 32896 < length input → refusedLine 2 0 ≡ listing input
 unfolding listing
-long-listed input h = rw (too-large-refused (linesRead input) (long-input input h))
+listing-long input h = rw (too-large-refused (linesRead input) (long-input input h))
 
-pub settled : (input rest : List ℕ) → length input ≡ 32897 → listing (input ++ rest) ≡ listing input
-settled input rest h = sym (long-listed (input ++ rest) (omega (arith, length-append input rest))) ∙ long-listed input (omega arith)
+pub listing-settled : (input rest : List ℕ) → length input ≡ 32897 → listing (input ++ rest) ≡ listing input
+listing-settled input rest h = sym (listing-long (input ++ rest) (omega (arith, length-append input rest))) ∙ listing-long input (omega arith)
 
-pub held-listed : (input lengths text : List ℕ) (r : Split) (lines bytes : ℕ) → r ≡ Lines lines bytes → Splits input lengths text r
+pub listing-held : (input lengths text : List ℕ) (r : Split) (lines bytes : ℕ) → r ≡ Lines lines bytes → Splits input lengths text r
     → listedLines (splitText (take (lines - 0) lengths) (take (bytes - 0) text)) ≡ listing input
 unfolding listing linesRead
-held-listed input lengths text r lines bytes e h =
+listing-held input lengths text r lines bytes e h =
     let same : lines - 0 ≡ lines = omega arith in
     let also : bytes - 0 ≡ bytes = omega arith in
     rw (same, also, split-held input lengths text r lines bytes e h .split)

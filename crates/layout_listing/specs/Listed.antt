@@ -15,8 +15,8 @@ abbrev pub listedLines : List (List ℕ) → List ℕ
 listedLines texts = listed (linesAt0 texts) (readLayout (linesAt0 texts))
 
 -- the answer and the arrays of columns, rows and cells give the listing of the lines
-abbrev pub Told : List ℕ → List ℕ → List ℕ → List ℕ → List ℕ → LayoutAnswer → Type 0
-Told lengths text cols rows cells (Accepted width across tall count ranges) =
+abbrev pub LayoutTold : List ℕ → List ℕ → List ℕ → List ℕ → List ℕ → LayoutAnswer → Type 0
+LayoutTold lengths text cols rows cells (Accepted width across tall count ranges) =
     (across ≤ 127) × (tall ≤ 127) × (count ≤ 1024)
-    × (tablePrinted width (length lengths) across tall count cols rows cells ≡ listedLines (splitText lengths text))
-Told lengths text cols rows cells (Refused number place) = refusedLine number place ≡ listedLines (splitText lengths text)
+    × (tablePrinted (width .0) (length lengths) across tall count cols rows cells ≡ listedLines (splitText lengths text))
+LayoutTold lengths text cols rows cells (Refused number place) = refusedLine number place ≡ listedLines (splitText lengths text)

@@ -21,8 +21,8 @@ rowsOfArray zero array = []
 rowsOfArray (suc n) array = rowOf (getD array 0 0) (getD array 1 0) (getD array 2 0) ∷ rowsOfArray n (drop 3 array)
 
 -- the lines strictly between the top of a cell's first row and the bottom of its last
-abbrev pub innerLines : List ℕ → ℕ → ℕ → ℕ
-innerLines rows row rowspan = getD rows (3 * (row + rowspan) - 1) 0 - getD rows (3 * row + 1) 0 - 1
+abbrev pub innerHeight : List ℕ → ℕ → ℕ → ℕ
+innerHeight rows row rowspan = getD rows (3 * (row + rowspan) - 1) 0 - getD rows (3 * row + 1) 0 - 1
 
 abbrev pub gridPrinted : ℕ → ℕ → ℕ → ℕ → ℕ → List ℕ
 gridPrinted width height across down count =
@@ -31,7 +31,7 @@ gridPrinted width height across down count =
 unfoldable pub cellsPrinted : ℕ → List ℕ → List ℕ → List ℕ
 cellsPrinted zero rows array = []
 cellsPrinted (suc n) rows array =
-    cellPrinted array 0 (innerLines rows (getD array 0 0) (getD array 3 0)) ++ cellsPrinted n rows (drop 5 array)
+    cellPrinted array 0 (innerHeight rows (getD array 0 0) (getD array 3 0)) ++ cellsPrinted n rows (drop 5 array)
 
 -- the listing of an accepted layout, from the sizes and the entries of columns, rows and cells
 unfoldable pub tablePrinted : ℕ → ℕ → ℕ → ℕ → ℕ → List ℕ → List ℕ → List ℕ → List ℕ

@@ -8,7 +8,7 @@ ghost use lib.ListN.{length};
 ghost use Rattle.seq.specs.Lists.{sum};
 ghost use Rattle.grid.specs.Flat.{splitText};
 ghost use Rattle.printing.specs.Printing.{Prints};
-ghost use Rattle.layout_listing.specs.Listed.{listedLines, Told};
+ghost use Rattle.layout_listing.specs.Listed.{listedLines, LayoutTold};
 
 // The layout of a drawing's lines, all at column 0, with working space as the call names it.
 fn lines_layout(
@@ -20,7 +20,7 @@ fn lines_layout(
 ) -> LayoutAnswer
     requires { ⌜ (length (now lengths) ≤ 128) × (sum (now lengths) ≡ length (now text)) ⌝ }
     requires { ⌜ (length (now cols) ≡ 254) × (length (now rows) ≡ 381) × (length (now cells) ≡ 5120) ⌝ }
-    ensures { λ r. ⌜ Told (now (lengths .entry)) (now (text .entry)) (now (cols .exit)) (now (rows .exit)) (now (cells .exit)) r ⌝ }
+    ensures { λ r. ⌜ LayoutTold (now (lengths .entry)) (now (text .entry)) (now (cols .exit)) (now (rows .exit)) (now (cells .exit)) r ⌝ }
 {
     let lines = lengths.len();
     let origins = [0u16; 128];
@@ -66,7 +66,7 @@ pub fn list_lines(lengths: &[u16], text: &[u8], out: &mut [u8]) -> usize
             cells: count,
             ranges: _,
         } => table(
-            width,
+            width.0,
             lengths.len(),
             across,
             tall,

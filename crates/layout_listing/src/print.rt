@@ -12,7 +12,7 @@ ghost use Rattle.text.specs.Characters.{space};
 ghost use Rattle.grid.specs.Flat.{codeAlignment, codeSection, columnsOfArray};
 ghost use Rattle.grid.specs.Listing.{alignmentLetter, sectionLetter, numbered, columnLine, rowLine};
 ghost use Rattle.printing.specs.Printing.{Put, Prints};
-ghost use Rattle.layout_listing.specs.Printing.{columnOf, rowOf, rowsOfArray, innerLines, cellsPrinted, tablePrinted};
+ghost use Rattle.layout_listing.specs.Printing.{columnOf, rowOf, rowsOfArray, innerHeight, cellsPrinted, tablePrinted};
 
 fn letter(sign: u8, out: &mut [u8], at: usize) -> usize
     requires { ⌜ at + 2 ≤ length (now out) ⌝ }
@@ -117,7 +117,7 @@ fn less(a: usize, b: usize) -> usize
 // The lines strictly between the borders of a cell: from its first row's top to its last row's bottom.
 fn inner_lines(rows: &[u16], row: usize, rowspan: usize) -> usize
     requires { ⌜ (row < 65536) × (rowspan < 65536) ⌝ }
-    ensures { λ r. ⌜ r ≡ innerLines (now (rows .entry)) row rowspan ⌝ }
+    ensures { λ r. ⌜ r ≡ innerHeight (now (rows .entry)) row rowspan ⌝ }
 {
     let top = entry(rows, 3 * row + 1);
     let bottom = entry(rows, less(3 * (row + rowspan), 1));

@@ -50,6 +50,6 @@ module _ (p : Placed) (g : Grid) (rs : List Rect) (glyphs offsets : List ℕ) (c
     empty : r .bottom ≤ r .top + 1 → contentPosition p (r .top) (map (contentAt g r) (innerLines r)) ≡ rectSpan p offsets r
     empty h = let count : r .bottom - r .top - 1 ≡ 0 = omega arith in rw (count, le-ltb (r .top + 1) (r .bottom) h)
 
-  pub cell-span : cellPosition p (layoutOf (p .lines) g rs) (cellRead g rs r) ≡ rectSpan p offsets r
+  pub cellPosition-span : cellPosition p (layoutOf (p .lines) g rs) (cellRead g rs r) ≡ rectSpan p offsets r
   unfolding cellPosition cellRead
-  cell-span = rw (top-of (p .lines) g rs cover m) content-span
+  cellPosition-span = rw (top-of (p .lines) g rs cover m) content-span

@@ -15,14 +15,14 @@ use Rattle.grid.specs.Flat.{FlatDrawing, linesOf}
 use Rattle.grid.specs.LayoutCall.{LayoutSpace, drawing}
 use Rattle.representation.specs.LayoutParts.{rectsAnswer}
 use Rattle.reading.specs.Agreement.{anyOver}
-use Rattle.reading.specs.Call.{Reading}
+use Rattle.reading.specs.Call.{SheetArrays, Reading}
 use Rattle.reading.specs.declared.Outcome.{Outcome}
 use Rattle.reading.proofs.WidthLaws.{none-over-limit}
 use Rattle.reading.proofs.ReadingLaws.{refused-by}
 use Rattle.sourcepos.specs.PositionsCall.{FlatPlaced, placed, placedContradicts, numbersTooLarge}
 use Rattle.positions.specs.Needs.{PlacedSheet}
 use Rattle.positions.specs.Parts.{placedNumber, placedRects}
-use Rattle.positions.proofs.checks.CheckLaws.{read-passed, lengths-agree, over-told}
+use Rattle.positions.proofs.checks.CheckLaws.{placedContradicts-passed, placedContradicts-lengths, numbersTooLarge-told}
 
 -- ---- a chain of two checks, as a number and as an answer
 number-passed : (a b : Bool) → _≡_ {A = ℕ} (cond a 13 (cond b 2 0)) 0 → (a ≡ false) × (b ≡ false)
@@ -35,19 +35,19 @@ number-stopped true b number next e nonzero = rw e
 number-stopped false true number next e nonzero = rw e
 number-stopped false false number next e nonzero = absurd (nonzero e)
 
-module _ (w : LayoutSpace) (starts lines bytes : ℕ) (lengths columns text numbers tableBytes glyphs offsets rects : List ℕ) (s : Outcome) (number : ℕ)
-    (told : number ≡ placedNumber w starts (placed (drawing lines bytes lengths columns text) numbers tableBytes)) where
+module _ (w : LayoutSpace) (starts lines bytes : ℕ) (a : SheetArrays) (numbers tableBytes : List ℕ) (s : Outcome) (number : ℕ)
+    (told : number ≡ placedNumber w starts (placed (drawing lines bytes (a .lengths) (a .columns) (a .text)) numbers tableBytes)) where
   abbrev d : FlatDrawing
-  d = drawing lines bytes lengths columns text
+  d = drawing lines bytes (a .lengths) (a .columns) (a .text)
 
   abbrev given : FlatPlaced
   given = placed d numbers tableBytes
 
-  pub unplaced : (number ≡ 0 → ⊥) → (s .number ≡ number) × (s .place ≡ 0) × (s .cells ≡ 0)
-      → Reading (placedRects w starts given) lengths columns text glyphs offsets rects s × (s .number ≡ 0 → PlacedSheet lengths numbers tableBytes starts)
+  pub placed-refused : (number ≡ 0 → ⊥) → (s .number ≡ number) × (s .place ≡ 0) × (s .cells ≡ 0)
+      → Reading (placedRects w starts given) a s × (s .number ≡ 0 → PlacedSheet (a .lengths) numbers tableBytes starts)
   unfolding placedRects
-  unplaced nonzero left = (
-    refused-by lengths columns text glyphs offsets rects s (number-stopped (placedContradicts w starts given) (numbersTooLarge given) number (readRects (linesOf d)) told nonzero) nonzero left,
+  placed-refused nonzero left = (
+    refused-by a s (number-stopped (placedContradicts w starts given) (numbersTooLarge given) number (readRects (linesOf d)) told nonzero) nonzero left,
     λ z. absurd (nonzero (sym (left .0) ∙ z)),
   )
 
@@ -57,19 +57,19 @@ module _ (w : LayoutSpace) (starts lines bytes : ℕ) (lengths columns text numb
 
     same-rects : placedRects w starts given ≡ rectsAnswer w d
     unfolding placedRects rectsAnswer
-    same-rects = rw (passed .0, passed .1, read-passed w starts lines bytes lengths columns text numbers tableBytes (passed .0) .0)
+    same-rects = rw (passed .0, passed .1, placedContradicts-passed w starts lines bytes (a .lengths) (a .columns) (a .text) numbers tableBytes (passed .0) .0)
 
-    sheet : length lengths ≤ maxLines → PlacedSheet lengths numbers tableBytes starts
+    sheet : length (a .lengths) ≤ maxLines → PlacedSheet (a .lengths) numbers tableBytes starts
     sheet few =
-        let agree = lengths-agree w starts lines bytes lengths columns text numbers tableBytes (passed .0) in
-        let over = over-told w starts lines bytes lengths columns text numbers tableBytes (passed .0) in
+        let agree = placedContradicts-lengths w starts lines bytes (a .lengths) (a .columns) (a .text) numbers tableBytes (passed .0) in
+        let over = numbersTooLarge-told w starts lines bytes (a .lengths) (a .columns) (a .text) numbers tableBytes (passed .0) in
         let low = or-neither (anyOver maxRegister numbers) (anyOver maxRegister tableBytes) (sym over ∙ passed .1) in
         record {
           numbered = record { few = omega (arith, agree); agree = omega (arith, agree); low = none-over-limit maxRegister tableBytes (low .1) };
           agree = agree .0;
-          startRoom = ltb-false starts maxLines (read-passed w starts lines bytes lengths columns text numbers tableBytes (passed .0) .1);
+          startRoom = ltb-false starts maxLines (placedContradicts-passed w starts lines bytes (a .lengths) (a .columns) (a .text) numbers tableBytes (passed .0) .1);
         }
 
-    pub placed-read : Reading (rectsAnswer w d) lengths columns text glyphs offsets rects s
-        → Reading (placedRects w starts given) lengths columns text glyphs offsets rects s × (s .number ≡ 0 → PlacedSheet lengths numbers tableBytes starts)
+    pub placed-read : Reading (rectsAnswer w d) a s
+        → Reading (placedRects w starts given) a s × (s .number ≡ 0 → PlacedSheet (a .lengths) numbers tableBytes starts)
     placed-read r = (rw same-rects r, λ z. sheet (r .traced z .sheet .fewLines))

@@ -6,121 +6,118 @@ use mathlib.Core.List.{List, [], List·Memᴰ}
 use native.Mathlib.Omega.{arith}
 use lib.ListN.{length, getD, length-map}
 use Rattle.seq.proofs.FlatMaps.{flatMap-same, flatMap-map, length-flatMap}
-use Rattle.grid.specs.Values.{Line, Rect, Row, Cell}
+use Rattle.grid.specs.Values.{Rect, Row, Cell}
 use Rattle.grid.specs.Slots.{Grid, gridOf}
 use Rattle.grid.specs.Layout.{Between, between, rowLines, sectionAt, rowsRead, cellRead, layoutOf}
-use Rattle.grid.specs.Flat.{linesFrom, shorter}
+use Rattle.grid.specs.Flat.{shorter}
 use Rattle.grid.specs.TableCall.{noCell}
 use Rattle.grid.proofs.LayoutLaws.{rowLines-rise, length-between}
 use Rattle.grid.proofs.SizeLaws.{rows-count}
-use Rattle.representation.specs.Arrays.{rectsOf, rectIn}
+use Rattle.representation.specs.Arrays.{rectIn}
 use Rattle.representation.specs.Edges.{rowLinesBelow}
 use Rattle.representation.specs.LayoutEntries.{Inside}
 use Rattle.representation.proofs.RectsLaws.{length-rects}
 use Rattle.representation.proofs.HeldLaws.{rect-holds}
-use Rattle.reading.specs.Call.{TracedSheet}
+use Rattle.reading.specs.Call.{SheetArrays, linesIn, rectsIn, TracedSheet}
 use Rattle.reading.specs.declared.Outcome.{Outcome}
-use Rattle.reading.proofs.SheetLaws.{tall, across, cells-room, entries-small, all-laid, all-covered, some-line}
-use Rattle.layout.proofs.FinishNeeds.{some-row}
+use Rattle.reading.proofs.SheetLaws.{traced-height, traced-width, traced-room, traced-edges, traced-laid, traced-cover, traced-some}
+use Rattle.layout.proofs.FinishNeeds.{rowLines-some}
 use Rattle.cell.proofs.CallLaws.{cell-here}
 use Rattle.sourcepos.specs.Positions.{Placed, rowPosition, cellPosition}
 use Rattle.sourcepos.specs.PositionsCall.{fourNumbers, PositionArrays, positionArrays}
-use Rattle.positions.specs.Spans.{drawnLines, linesBetween, rowSpans, rectSpan, rectSpans}
-use Rattle.positions.specs.Needs.{PlacedSheet, Cells, RowsAndCells}
+use Rattle.positions.specs.Spans.{placedDrawing, linesBetween, rowSpans, rectSpan, rectSpans}
+use Rattle.positions.specs.Needs.{PlacedSheet, PlacedCells, RowsAndCells}
 use Rattle.positions.specs.Parts.{spansShort}
-use Rattle.positions.proofs.CellLaws.{cell-span}
+use Rattle.positions.proofs.CellLaws.{cellPosition-span}
 
-module _ (lengths columns text glyphs offsets rects : List ℕ) (o : Outcome) (t : TracedSheet lengths columns text glyphs offsets rects o) (numbers tableBytes : List ℕ) where
-  abbrev lines : List Line
-  lines = linesFrom lengths columns text
-
+module _ {a : SheetArrays} {o : Outcome} (t : TracedSheet a o) (numbers tableBytes : List ℕ) where
   abbrev g : Grid
-  g = gridOf lines
+  g = gridOf (linesIn a)
 
   abbrev rs : List Rect
-  rs = rectsOf (o .cells) rects
+  rs = rectsIn a (o .cells)
 
   abbrev rows : List ℕ
-  rows = rowLinesBelow (length lengths) rs
+  rows = rowLinesBelow (length (a .lengths)) rs
 
   abbrev drawn : Placed
-  drawn = drawnLines numbers tableBytes lengths text columns
+  drawn = placedDrawing numbers tableBytes (a .lengths) (a .text) (a .columns)
 
   rows-same : rowLines g rs ≡ rows
   unfolding rowLines
-  rows-same = rw (tall lengths columns text glyphs offsets rects o t)
+  rows-same = rw (traced-height a o t)
 
-  pub rows-told : positionArrays drawn (layoutOf lines g rs) .rows ≡ rowSpans drawn rows
+  pub rowSpans-told : positionArrays drawn (layoutOf (linesIn a) g rs) .rows ≡ rowSpans drawn rows
   unfolding positionArrays layoutOf rowsRead rowPosition
-  rows-told =
+  rowSpans-told =
       flatMap-map (λ (r : Row). fourNumbers (rowPosition drawn r)) (λ (b : Between). record { section = sectionAt g (b .from); top = b .from; bottom = b .to }) (between (rowLines g rs))
       ∙ rw rows-same
 
-  cell-told : {r : Rect} → List·Memᴰ r rs → cellPosition drawn (layoutOf lines g rs) (cellRead g rs r) ≡ rectSpan drawn offsets r
-  cell-told m = cell-span drawn g rs glyphs offsets (all-covered lengths columns text glyphs offsets rects o t) (all-laid lengths columns text glyphs offsets rects o t) m
+  rectSpan-told : {r : Rect} → List·Memᴰ r rs → cellPosition drawn (layoutOf (linesIn a) g rs) (cellRead g rs r) ≡ rectSpan drawn (a .offsets) r
+  rectSpan-told m = cellPosition-span drawn g rs (a .glyphs) (a .offsets) (traced-cover a o t) (traced-laid a o t) m
 
-  pub cells-told : positionArrays drawn (layoutOf lines g rs) .cells ≡ rectSpans drawn offsets rs
+  pub rectSpans-told : positionArrays drawn (layoutOf (linesIn a) g rs) .cells ≡ rectSpans drawn (a .offsets) rs
   unfolding positionArrays layoutOf
-  cells-told =
-      flatMap-map (λ (c : Cell). fourNumbers (cellPosition drawn (layoutOf lines g rs) c)) (cellRead g rs) rs
-      ∙ flatMap-same (λ r. fourNumbers (cellPosition drawn (layoutOf lines g rs) (cellRead g rs r))) (λ r. fourNumbers (rectSpan drawn offsets r)) rs (λ r m. ap fourNumbers (cell-told m))
+  rectSpans-told =
+      flatMap-map (λ (c : Cell). fourNumbers (cellPosition drawn (layoutOf (linesIn a) g rs) c)) (cellRead g rs) rs
+      ∙ flatMap-same (λ r. fourNumbers (cellPosition drawn (layoutOf (linesIn a) g rs) (cellRead g rs r))) (λ r. fourNumbers (rectSpan drawn (a .offsets) r)) rs (λ r m. ap fourNumbers (rectSpan-told m))
 
-  pub short-told : (out : PositionArrays)
-      → shorter (out .rows) (positionArrays drawn (layoutOf lines g rs) .rows) || shorter (out .cells) (positionArrays drawn (layoutOf lines g rs) .cells)
+  pub spansShort-told : (out : PositionArrays)
+      → shorter (out .rows) (positionArrays drawn (layoutOf (linesIn a) g rs) .rows) || shorter (out .cells) (positionArrays drawn (layoutOf (linesIn a) g rs) .cells)
       ≡ spansShort (length rows) (length rs) out
-  short-told out =
+  spansShort-told out =
       let rowsLong : length (rowSpans drawn rows) ≡ 4 * (length rows - 1) =
       length-flatMap 4 (λ (b : Between). fourNumbers (linesBetween drawn (b .from) (b .to))) (between rows) (λ b. refl) ∙ rw (length-between rows) in
-      let cellsLong : length (rectSpans drawn offsets rs) ≡ 4 * length rs = length-flatMap 4 (λ r. fourNumbers (rectSpan drawn offsets r)) rs (λ r. refl) in
-      rw (rows-told, cells-told, rowsLong, cellsLong)
+      let cellsLong : length (rectSpans drawn (a .offsets) rs) ≡ 4 * length rs = length-flatMap 4 (λ r. fourNumbers (rectSpan drawn (a .offsets) r)) rs (λ r. refl) in
+      rw (rowSpans-told, rectSpans-told, rowsLong, cellsLong)
 
-  pub rows-counted : length (layoutOf lines g rs .rows) ≡ length rows - 1
+  pub layoutOf-rows : length (layoutOf (linesIn a) g rs .rows) ≡ length rows - 1
   unfolding layoutOf
-  rows-counted = rows-count lines g rs ∙ rw rows-same
+  layoutOf-rows = rows-count (linesIn a) g rs ∙ rw rows-same
 
-  pub cells-counted : length (layoutOf lines g rs .cells) ≡ o .cells
+  pub layoutOf-cells : length (layoutOf (linesIn a) g rs .cells) ≡ o .cells
   unfolding layoutOf
-  cells-counted = length-map rs (cellRead g rs) ∙ length-rects (o .cells) rects
+  layoutOf-cells = length-map rs (cellRead g rs) ∙ length-rects (o .cells) (a .rects)
 
-  pub cell-at : (k : ℕ) → k < o .cells → cellPosition drawn (layoutOf lines g rs) (getD (layoutOf lines g rs .cells) k noCell) ≡ rectSpan drawn offsets (rectIn rects k)
-  cell-at k h =
-      rw (cell-here lengths columns text glyphs offsets rects o t [] k h)
-      (rect-holds (λ r. cellPosition drawn (layoutOf lines g rs) (cellRead g rs r) ≡ rectSpan drawn offsets r) rects (o .cells) k h (λ r m. cell-told m))
+  pub rectSpan-at : (k : ℕ) → k < o .cells → cellPosition drawn (layoutOf (linesIn a) g rs) (getD (layoutOf (linesIn a) g rs .cells) k noCell) ≡ rectSpan drawn (a .offsets) (rectIn (a .rects) k)
+  rectSpan-at k h =
+      rw (cell-here a o t [] k h)
+      (rect-holds (λ r. cellPosition drawn (layoutOf (linesIn a) g rs) (cellRead g rs r) ≡ rectSpan drawn (a .offsets) r) (a .rects) (o .cells) k h (λ r m. rectSpan-told m))
 
   -- ---- what the last parts ask
-  module _ (starts : ℕ) (s : PlacedSheet lengths numbers tableBytes starts) where
+  module _ {starts : ℕ} (s : PlacedSheet (a .lengths) numbers tableBytes starts) where
     inside : (r : Rect) → List·Memᴰ r rs → Inside (length numbers) 128 r
     inside r m =
-        let i = all-laid lengths columns text glyphs offsets rects o t .inside r m in
+        let i = traced-laid a o t .inside r m in
         record {
           down = i .down;
           across = i .across;
-          tall = omega (arith, i .tall, tall lengths columns text glyphs offsets rects o t, s .agree);
-          wide = omega (arith, i .wide, across lengths columns text glyphs offsets rects o t, t .roomy .widthFits);
+          tall = omega (arith, i .tall, traced-height a o t, s .agree);
+          wide = omega (arith, i .wide, traced-width a o t, t .roomy .widthFits);
         }
 
-    pub cells : Cells numbers tableBytes offsets rects (o .cells)
-    cells =
+    pub placed-cells : PlacedCells numbers tableBytes (a .offsets) (a .rects) (o .cells)
+    placed-cells =
         record {
           numbered = s .numbered;
           few = t .through .few;
-          rectRoom = cells-room lengths columns text glyphs offsets rects o t;
+          rectRoom = traced-room a o t;
           offsetRoom = t .roomy .offsetRoom;
           inside = inside;
         }
 
-    pub rows-and-cells : RowsAndCells lengths text numbers tableBytes offsets rects (o .cells) starts
-    rows-and-cells =
+    pub placed-rows-and-cells : RowsAndCells (a .lengths) (a .text) numbers tableBytes (a .offsets) (a .rects) (o .cells) starts
+    placed-rows-and-cells =
         record {
-          cells = cells;
+          cells = placed-cells;
           agree = s .agree;
           bytesAgree = t .sheet .bytesAgree;
           fewBytes = t .fewBytes;
           shortLines = t .sheet .shortLines;
-          someLine = some-line lengths columns text glyphs offsets rects o t;
+          someLine = traced-some a o t;
           fewLines = t .sheet .fewLines;
           startRoom = s .startRoom;
-          small = entries-small lengths columns text glyphs offsets rects o t;
-          someRow = some-row lengths columns text glyphs offsets rects o t;
+          small = traced-edges a o t;
+          someRow = rowLines-some t;
           rising = rw rows-same at (rowLines-rise g rs);
         }

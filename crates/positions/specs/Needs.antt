@@ -34,7 +34,7 @@ pub record PlacedSheet (lengths numbers tableBytes : List ℕ) (starts : ℕ) : 
   pub startRoom : maxLines ≤ starts
 
 -- n rectangles whose cells have positions
-pub record Cells (numbers tableBytes offsets rects : List ℕ) (n : ℕ) : Type 0 where
+pub record PlacedCells (numbers tableBytes offsets rects : List ℕ) (n : ℕ) : Type 0 where
   pub numbered : NumberedLines numbers tableBytes
   pub few : n ≤ 1024
   pub rectRoom : 4 * n ≤ length rects
@@ -43,7 +43,7 @@ pub record Cells (numbers tableBytes offsets rects : List ℕ) (n : ℕ) : Type 
 
 -- and the rows between their edges
 pub record RowsAndCells (lengths text numbers tableBytes offsets rects : List ℕ) (n : ℕ) (starts : ℕ) : Type 0 where
-  pub cells : Cells numbers tableBytes offsets rects n
+  pub cells : PlacedCells numbers tableBytes offsets rects n
   pub agree : length numbers ≡ length lengths
   pub bytesAgree : sum lengths ≡ length text
   pub fewBytes : length text ≤ maxBytes

@@ -21,8 +21,8 @@ abbrev pub placedLines : List ℕ → List ℕ → List Line → Placed
 placedLines numbers tableBytes lines = record { lines = lines; numbers = numbers; tableBytes = tableBytes }
 
 -- the lines of a drawing's arrays, with these columns
-abbrev pub drawnLines : List ℕ → List ℕ → List ℕ → List ℕ → List ℕ → Placed
-drawnLines numbers tableBytes lengths text columns = placedLines numbers tableBytes (linesFrom lengths columns text)
+abbrev pub placedDrawing : List ℕ → List ℕ → List ℕ → List ℕ → List ℕ → Placed
+placedDrawing numbers tableBytes lengths text columns = placedLines numbers tableBytes (linesFrom lengths columns text)
 
 -- a row lies between two border lines
 abbrev pub linesBetween : Placed → ℕ → ℕ → Sourcepos

@@ -1,8 +1,11 @@
 // The positions of cells, from their rectangles.
 use crate::span::Sourcepos;
 use crate::span::no_lines;
+use crate::span::source_byte;
 use crate::span::write_sourcepos;
-use representation::STRIDE;
+use slots::map::byte_at;
+use text::ByteAt;
+use text::Column;
 ghost use Prim.Native.Nat.{_*_, _≤_};
 ghost use mathlib.Core.Path.{_≡_};
 ghost use mathlib.Core.List.{List, List·Memᴰ};
@@ -21,15 +24,15 @@ pub fn rect_position(
     table_bytes: &[u32],
     offsets: &[u16],
     top: usize,
-    left: usize,
+    left: Column,
     bottom: usize,
-    right: usize,
+    right: Column,
 ) -> Sourcepos
     requires { ⌜ NumberedLines (now numbers) (now «table_bytes») × (slotSpace ≤ length (now offsets)) ⌝ }
-    requires { let rect : Rect = record { top = top; left = left; bottom = bottom; right = right } in
+    requires { let rect : Rect = record { top = top; left = left .0; bottom = bottom; right = right .0 } in
         ⌜ Inside (length (now numbers)) 128 rect ⌝ }
     ensures { λ r.
-        let rect : Rect = record { top = top; left = left; bottom = bottom; right = right } in
+        let rect : Rect = record { top = top; left = left .0; bottom = bottom; right = right .0 } in
         let placed = placedLines (now (numbers .entry)) (now («table_bytes» .entry)) in
         ⌜ ((lines : List Line) → sourceposOf r ≡ rectSpan (placed lines) (now (offsets .entry)) rect) ⌝ }
 {
@@ -38,13 +41,17 @@ pub fn rect_position(
         return no_lines(numbers, table_bytes, top);
     }
     let last = bottom - 1;
-    let start = offsets[first * STRIDE + left] as u32 + 1;
-    let end = offsets[last * STRIDE + right] as u32;
+    let start = ByteAt(byte_at(offsets, first, left).0 + 1);
+    let end = byte_at(offsets, last, right);
+    let start_column = source_byte(table_bytes[first], start) + 1;
+    let end_column = source_byte(table_bytes[last], end);
+    let start_line = numbers[first];
+    let end_line = numbers[last];
     Sourcepos {
-        start_line: numbers[first],
-        start_column: table_bytes[first] + start + 1,
-        end_line: numbers[last],
-        end_column: table_bytes[last] + end,
+        start_line,
+        start_column,
+        end_line,
+        end_column,
     }
 }
 
@@ -67,14 +74,18 @@ pub fn write_cells(
 {
     let mut k = 0;
     while k < n {
+        let top = rects[4 * k] as usize;
+        let left = rects[4 * k + 1] as usize;
+        let bottom = rects[4 * k + 2] as usize;
+        let right = rects[4 * k + 3] as usize;
         let position = rect_position(
             numbers,
             table_bytes,
             offsets,
-            rects[4 * k] as usize,
-            rects[4 * k + 1] as usize,
-            rects[4 * k + 2] as usize,
-            rects[4 * k + 3] as usize,
+            top,
+            Column(left),
+            bottom,
+            Column(right),
         );
         write_sourcepos(position, 4 * k, out);
         k += 1;

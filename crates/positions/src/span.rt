@@ -1,8 +1,10 @@
 // Where something starts and ends.
+use text::ByteAt;
 ghost use Prim.Native.Nat.{_+_, _≤_, _<_};
 ghost use mathlib.Core.Path.{_≡_};
 ghost use mathlib.Core.List.{List, _++_};
 ghost use lib.ListN.{length, take, drop};
+ghost use Rattle.grid.specs.Limits.{maxRegister};
 ghost use Rattle.grid.specs.Values.{Line};
 ghost use Rattle.sourcepos.specs.Positions.{noLines};
 ghost use Rattle.sourcepos.specs.PositionsCall.{fourNumbers};
@@ -15,6 +17,14 @@ pub struct Sourcepos {
     pub start_column: u32,
     pub end_line: u32,
     pub end_column: u32,
+}
+
+// A byte of a line as a byte of the source's line, in which the table starts at its table byte.
+pub fn source_byte(table_byte: u32, byte: ByteAt) -> u32
+    requires { ⌜ («table_byte» ≤ maxRegister) × (byte .0 ≤ 65536) ⌝ }
+    ensures { λ r. ⌜ (r ≡ «table_byte» + byte .0) × (r ≤ 131071) ⌝ }
+{
+    table_byte + byte.0 as u32
 }
 
 // What has no inner line: from its top line's table byte + 1 to that byte.

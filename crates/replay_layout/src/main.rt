@@ -31,7 +31,7 @@ fn print_answer(answer: LayoutAnswer, cols: &[u16], rows: &[u16], cells: &[u16],
             ranges: inner,
         } => {
             io::write_all(STDOUT_FILENO, b"accepted");
-            print(width);
+            print(width.0);
             print(across);
             print(down);
             print(count);

@@ -1,7 +1,7 @@
 // The layout call's answer as a struct.
 use layout::LayoutAnswer;
 ghost use mathlib.Core.Path.{_≡_};
-ghost use Rattle.layout.specs.Call.{answerOf};
+ghost use Rattle.layout.specs.Call.{layoutAnswerOf};
 ghost use Rattle.replies.specs.LayoutReply.{layoutReplyOf};
 
 // Number 0 is acceptance; then the values are those of the call. A refusal has its number and
@@ -18,7 +18,7 @@ pub struct LayoutReply {
 }
 
 pub fn layout_reply(answer: LayoutAnswer) -> LayoutReply
-    ensures { λ r. ⌜ r ≡ layoutReplyOf (answerOf answer) ⌝ }
+    ensures { λ r. ⌜ r ≡ layoutReplyOf (layoutAnswerOf answer) ⌝ }
 {
     match answer {
         LayoutAnswer::Accepted {
@@ -30,7 +30,7 @@ pub fn layout_reply(answer: LayoutAnswer) -> LayoutReply
         } => LayoutReply {
             number: 0,
             place: 0,
-            width,
+            width: width.0,
             columns,
             rows,
             cells,

@@ -32,9 +32,9 @@ marked-test {edges} m x h = rw (m .marked x h) (go (any (eqb x) edges)) where
   go false = refl
 
 -- nothing is marked at first
-pub no-marks : (rects : List ℕ) (from : ℕ) → Marks (edgeList 0 from rects) (replicate 128 0)
+pub marks-none : (rects : List ℕ) (from : ℕ) → Marks (edgeList 0 from rects) (replicate 128 0)
 unfolding everyNth any
-no-marks rects from = record { room = length-replicate {A = ℕ} 128 0; marked = λ x h. getD-replicate 128 x 0 0 h }
+marks-none rects from = record { room = length-replicate {A = ℕ} 128 0; marked = λ x h. getD-replicate 128 x 0 0 h }
 
 -- a mark more: what was marked, and x
 mark-at : (marks : List ℕ) (a x : ℕ) → a < length marks → (t : Bool) → getD marks x 0 ≡ cond t 1 0 → getD (set marks a 1) x 0 ≡ cond (t || eqb x a) 1 0
@@ -68,10 +68,10 @@ module _ (rects : List ℕ) (n k from : ℕ) (small : (i : ℕ) → i < 4 * n �
   second-small = small (4 * k + from + 2) (omega arith)
 
 -- both edges of one more rectangle
-pub mark-more : (rects : List ℕ) (from k : ℕ) (marks : List ℕ) → Marks (edgeList k from rects) marks
+pub marks-next : (rects : List ℕ) (from k : ℕ) (marks : List ℕ) → Marks (edgeList k from rects) marks
     → getD rects (4 * k + from) 0 < 128 → getD rects (4 * k + from + 2) 0 < 128
     → Marks (edgeList (k + 1) from rects) (set (set marks (getD rects (4 * k + from) 0) 1) (getD rects (4 * k + from + 2) 0) 1)
-mark-more rects from k marks m h g =
+marks-next rects from k marks m h g =
     let (a, b) : ℕ × ℕ = (getD rects (4 * k + from) 0, getD rects (4 * k + from + 2) 0) in
     record {
       room = simp length-set (m .room);
@@ -80,14 +80,14 @@ mark-more rects from k marks m h g =
           (mark-at marks a x (omega (arith, m .room)) (any (eqb x) (edgeList k from rects)) (m .marked x l)));
     }
 
-pub all-marked : (rects : List ℕ) (from n k : ℕ) (marks : List ℕ) → k ≤ n → n ≤ k → Marks (edgeList k from rects) marks → Marks (edgeList n from rects) marks
-all-marked rects from n k marks low high m = let e : k ≡ n = omega arith in rw (← e) m
+pub marks-all : (rects : List ℕ) (from n k : ℕ) (marks : List ℕ) → k ≤ n → n ≤ k → Marks (edgeList k from rects) marks → Marks (edgeList n from rects) marks
+marks-all rects from n k marks low high m = let e : k ≡ n = omega arith in rw (← e) m
 
 -- ---- the lines collected
-pub none-collected : (marks lines index : List ℕ) → length lines ≡ 128 → length index ≡ 128
+pub collected-none : (marks lines index : List ℕ) → length lines ≡ 128 → length index ≡ 128
     → Collected (markedBelow marks 0) 0 (record { lines = lines; index = index; count = 0 })
 unfolding range select
-none-collected marks lines index e f =
+collected-none marks lines index e f =
     record { room = e; indexRoom = f; counted = refl; few = omega arith; listed = refl; indexed = λ x h. absurd (omega arith) }
 
 -- the number of a later line is unchanged, and that of x is how many came before it
@@ -140,15 +140,15 @@ module _ (marks lines index : List ℕ) (count x size : ℕ) (h : x < size) (sma
   below-more : markedBelow marks (x + 1) ≡ markedBelow marks x ++ select (λ x. eqb (getD marks x 0) 1) (x ∷ [])
   below-more = rw (add-one x, range-more 0 x, zero-add x) (select-append (λ x. eqb (getD marks x 0) 1) (upTo x) (x ∷ []))
 
-  pub collect-line : (lines′ : List ℕ) (count′ : ℕ) → getD marks x 0 ≡ 1 → lines′ ≡ set lines count x → count′ ≡ count + 1
+  pub collected-line : (lines′ : List ℕ) (count′ : ℕ) → getD marks x 0 ≡ 1 → lines′ ≡ set lines count x → count′ ≡ count + 1
       → Collected (markedBelow marks (x + 1)) (x + 1) (record { lines = lines′; index = set index x count; count = count′ })
   unfolding select
-  collect-line lines′ count′ e f g = rw (f, g, below-more, eq-eqb (getD marks x 0) 1 e) (line-added (markedBelow marks x) index x before lines count (omega arith) c)
+  collected-line lines′ count′ e f g = rw (f, g, below-more, eq-eqb (getD marks x 0) 1 e) (line-added (markedBelow marks x) index x before lines count (omega arith) c)
 
-  pub collect-none : (lines′ : List ℕ) (count′ : ℕ) → (getD marks x 0 ≡ 1 → ⊥) → lines′ ≡ lines → count′ ≡ count
+  pub collected-no-line : (lines′ : List ℕ) (count′ : ℕ) → (getD marks x 0 ≡ 1 → ⊥) → lines′ ≡ lines → count′ ≡ count
       → Collected (markedBelow marks (x + 1)) (x + 1) (record { lines = lines′; index = set index x count; count = count′ })
   unfolding select
-  collect-none lines′ count′ e f g = rw (f, g, below-more, ne-eqb (getD marks x 0) 1 e, append-nil) (line-kept (markedBelow marks x) index x before lines count (omega arith) c)
+  collected-no-line lines′ count′ e f g = rw (f, g, below-more, ne-eqb (getD marks x 0) 1 e, append-nil) (line-kept (markedBelow marks x) index x before lines count (omega arith) c)
 
 -- ---- the lines of the marked edges
 module _ (rects marks : List ℕ) (n size : ℕ) (r : Bounds) (small : size ≤ 128) (c : Collected (markedBelow marks size) size r) where
@@ -156,15 +156,15 @@ module _ (rects marks : List ℕ) (n size : ℕ) (r : Bounds) (small : size ≤ 
   lines-marked edges test m e =
       select-agree (λ x. eqb (getD marks x 0) 1) test (upTo size) (λ x l. marked-test m x (omega (arith, range-mem 0 size x l)) ∙ e x)
 
-  pub rows-collected : Marks (edgeList n 0 rects) marks → Collected (rowLinesBelow size (rectsOf n rects)) size r
-  rows-collected m =
+  pub collected-rows : Marks (edgeList n 0 rects) marks → Collected (rowLinesBelow size (rectsOf n rects)) size r
+  collected-rows m =
       rw (← lines-marked (edgeList n 0 rects) (λ y. any (λ (r : Rect). eqb y (r .top) || eqb y (r .bottom)) (rectsOf n rects)) m
       (λ y. any-edge (λ r. r .top) (λ r. r .bottom) 0 2 (λ a. refl) (λ a. refl) y n rects)) c
 
-  pub columns-collected : Marks (edgeList n 1 rects) marks → Collected (columnLinesBelow size (rectsOf n rects)) size r
-  columns-collected m =
+  pub collected-columns : Marks (edgeList n 1 rects) marks → Collected (columnLinesBelow size (rectsOf n rects)) size r
+  collected-columns m =
       rw (← lines-marked (edgeList n 1 rects) (λ x. any (λ (r : Rect). eqb x (r .left) || eqb x (r .right)) (rectsOf n rects)) m
       (λ x. any-edge (λ r. r .left) (λ r. r .right) 1 3 (λ a. refl) (λ a. refl) x n rects)) c
 
-pub all-collected : (marks : List ℕ) (size x : ℕ) (r : Bounds) → x ≤ size → size ≤ x → Collected (markedBelow marks x) x r → Collected (markedBelow marks size) size r
-all-collected marks size x r low high c = let e : x ≡ size = omega arith in rw (← e) c
+pub collected-all : (marks : List ℕ) (size x : ℕ) (r : Bounds) → x ≤ size → size ≤ x → Collected (markedBelow marks x) x r → Collected (markedBelow marks size) size r
+collected-all marks size x r low high c = let e : x ≡ size = omega arith in rw (← e) c

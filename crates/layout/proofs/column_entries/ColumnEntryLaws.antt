@@ -20,19 +20,19 @@ module _ (glyphs offsets line : List ℕ) (a : ℕ) (columns : Bounds) (buffer :
   abbrev columnEntry : Between → List ℕ
   columnEntry b = alignmentFrom glyphs offsets line a (b .from) ∷ (b .to - b .from - 1) ∷ []
 
-  pub no-column : ColumnsWritten glyphs offsets line a columns buffer 0 buffer
-  no-column = record { entries = none-written columnEntry (between (linesHeld columns)) 0 buffer }
+  pub columnsWritten-none : ColumnsWritten glyphs offsets line a columns buffer 0 buffer
+  columnsWritten-none = record { entries = none-written columnEntry (between (linesHeld columns)) 0 buffer }
 
   module _ (out : List ℕ) (k : ℕ) (rising : Rising columns) (w : ColumnsWritten glyphs offsets line a columns buffer k out) where
-    pub column-next : (s : ℕ) → k + 1 < columns .count → 2 * (columns .count - 1) ≤ length buffer → s ≡ alignmentFrom glyphs offsets line a (getD (columns .lines) k 0)
+    pub columnsWritten-next : (s : ℕ) → k + 1 < columns .count → 2 * (columns .count - 1) ≤ length buffer → s ≡ alignmentFrom glyphs offsets line a (getD (columns .lines) k 0)
         → ColumnsWritten glyphs offsets line a columns buffer (k + 1)
         (set (set out (2 * k) s) (2 * k + 1) (getD (columns .lines) (k + 1) 0 - getD (columns .lines) k 0 - 1))
-    column-next s h room e =
+    columnsWritten-next s h room e =
         let step =
         write-sets columnEntry (between (linesHeld columns)) 0 buffer out k nobody (omega (arith, length-pairs columns k rising)) (w .entries) 2 (λ b. refl)
         (rw (length-pairs columns k rising) (omega arith)) in
         record { entries = rw (e, add-one (2 * k)) (rw (pair-at columns k rising h, zero-add) at step) }
 
-    pub columns-done : columns .count ≤ k + 1 → out ≡ over (columnEntries glyphs offsets line a (linesHeld columns)) buffer
-    columns-done h =
+    pub columnsWritten-all : columns .count ≤ k + 1 → out ≡ over (columnEntries glyphs offsets line a (linesHeld columns)) buffer
+    columnsWritten-all h =
         all-written columnEntry (between (linesHeld columns)) 0 buffer out k (omega (arith, length-pairs columns k rising)) (w .entries) ∙ rw zero-add

@@ -17,10 +17,10 @@ use Rattle.seq.proofs.Walks.{sum-more}
 use Rattle.representation.proofs.RectsLaws.{length-rects, getD-rects}
 use Rattle.representation.specs.LayoutEntries.{rangeEntries, allRanges, Inside}
 use Rattle.representation.proofs.HeldLaws.{noRect, rect-holds, AllInside, bottom-small}
-use Rattle.layout.proofs.range_entries.RangeLaws.{length-ranges}
+use Rattle.layout.proofs.range_entries.RangeLaws.{rangeEntries-length}
 
 -- ---- the ranges of all cells
-pub record AllWritten (rects : List ℕ) (n : ℕ) (offsets buffer : List ℕ) (k at : ℕ) (out : List ℕ) : Type 0 where
+pub record AllRangesWritten (rects : List ℕ) (n : ℕ) (offsets buffer : List ℕ) (k at : ℕ) (out : List ℕ) : Type 0 where
   pub inside : AllInside rects n
   pub small : (r : Rect) → List·Memᴰ r (rectsOf n rects) → (y : ℕ) → r .top < y → y < r .bottom → codeAt offsets y (r .left) < 512
   pub room : length (allRanges offsets (rectsOf n rects)) ≤ length buffer
@@ -28,38 +28,38 @@ pub record AllWritten (rects : List ℕ) (n : ℕ) (offsets buffer : List ℕ) (
   pub place : at ≡ length (flatMap (rangeEntries offsets) (take k (rectsOf n rects)))
   pub entries : Written (rangeEntries offsets) (rectsOf n rects) 0 buffer k out
 
-pub no-cell-ranges : (rects : List ℕ) (n : ℕ) (offsets buffer : List ℕ) → ((r : Rect) → List·Memᴰ r (rectsOf n rects) → Inside 128 128 r)
+pub allRangesWritten-none : (rects : List ℕ) (n : ℕ) (offsets buffer : List ℕ) → ((r : Rect) → List·Memᴰ r (rectsOf n rects) → Inside 128 128 r)
     → ((r : Rect) → List·Memᴰ r (rectsOf n rects) → (y : ℕ) → r .top < y → y < r .bottom → codeAt offsets y (r .left) < 512)
-    → length (allRanges offsets (rectsOf n rects)) ≤ length buffer → AllWritten rects n offsets buffer 0 0 buffer
+    → length (allRanges offsets (rectsOf n rects)) ≤ length buffer → AllRangesWritten rects n offsets buffer 0 0 buffer
 unfolding flatMap
-no-cell-ranges rects n offsets buffer inside small room =
+allRangesWritten-none rects n offsets buffer inside small room =
     record { inside = record { each = inside }; small = small; room = room; few = omega arith; place = refl; entries = none-written (rangeEntries offsets) (rectsOf n rects) 0 buffer }
 
-module _ (rects : List ℕ) (n : ℕ) (offsets buffer : List ℕ) (k at : ℕ) (out : List ℕ) (w : AllWritten rects n offsets buffer k at out) where
+module _ (rects : List ℕ) (n : ℕ) (offsets buffer : List ℕ) (k at : ℕ) (out : List ℕ) (w : AllRangesWritten rects n offsets buffer k at out) where
   module _ (h : k < n) where
-    pub rect-small : (y : ℕ) → getD rects (4 * k) 0 < y → y < getD rects (4 * k + 2) 0 → codeAt offsets y (getD rects (4 * k + 1) 0) < 512
-    rect-small = rect-holds (λ r. (y : ℕ) → r .top < y → y < r .bottom → codeAt offsets y (r .left) < 512) rects n k h (w .small)
+    pub allRangesWritten-small : (y : ℕ) → getD rects (4 * k) 0 < y → y < getD rects (4 * k + 2) 0 → codeAt offsets y (getD rects (4 * k + 1) 0) < 512
+    allRangesWritten-small = rect-holds (λ r. (y : ℕ) → r .top < y → y < r .bottom → codeAt offsets y (r .left) < 512) rects n k h (w .small)
 
     entries-here : rangeEntries offsets (getD (rectsOf n rects) k noRect) ≡ rangeEntries offsets (rectIn rects k)
     entries-here = rw (getD-rects n k rects noRect h)
 
     place-next : at + 2 * (getD rects (4 * k + 2) 0 - getD rects (4 * k) 0 - 1) ≡ length (flatMap (rangeEntries offsets) (take (k + 1) (rectsOf n rects)))
     place-next =
-        omega (arith, w .place, length-more (rangeEntries offsets) (rectsOf n rects) k noRect (rw length-rects h), ap length entries-here, length-ranges offsets (rectIn rects k))
+        omega (arith, w .place, length-more (rangeEntries offsets) (rectsOf n rects) k noRect (rw length-rects h), ap length entries-here, rangeEntries-length offsets (rectIn rects k))
 
-    pub ranges-fit : at + 2 * (getD rects (4 * k + 2) 0 - getD rects (4 * k) 0 - 1) ≤ length out
-    ranges-fit = omega (arith, place-next, first-shorter (rangeEntries offsets) (rectsOf n rects) (k + 1), w .room, w .entries .kept)
+    pub allRangesWritten-room : at + 2 * (getD rects (4 * k + 2) 0 - getD rects (4 * k) 0 - 1) ≤ length out
+    allRangesWritten-room = omega (arith, place-next, first-shorter (rangeEntries offsets) (rectsOf n rects) (k + 1), w .room, w .entries .kept)
 
-    pub entries-fit : Fits w64 (2 * (getD rects (4 * k + 2) 0 - getD rects (4 * k) 0 - 1))
-    entries-fit = record { fits = omega (arith, bottom-small rects n k (w .inside) h) }
+    pub allRangesWritten-entries-fit : Fits w64 (2 * (getD rects (4 * k + 2) 0 - getD rects (4 * k) 0 - 1))
+    allRangesWritten-entries-fit = record { fits = omega (arith, bottom-small rects n k (w .inside) h) }
 
-    pub place-fits : n ≤ 1024 → Fits w64 (at + 2 * (getD rects (4 * k + 2) 0 - getD rects (4 * k) 0 - 1))
-    place-fits few = record { fits = omega (arith, w .few, bottom-small rects n k (w .inside) h) }
+    pub allRangesWritten-place-fits : n ≤ 1024 → Fits w64 (at + 2 * (getD rects (4 * k + 2) 0 - getD rects (4 * k) 0 - 1))
+    allRangesWritten-place-fits few = record { fits = omega (arith, w .few, bottom-small rects n k (w .inside) h) }
 
-    pub cell-ranges : (out′ : List ℕ)
+    pub allRangesWritten-next : (out′ : List ℕ)
         → out′ ≡ take at out ++ rangeEntries offsets (rectIn rects k) ++ drop (at + 2 * (getD rects (4 * k + 2) 0 - getD rects (4 * k) 0 - 1)) out
-        → AllWritten rects n offsets buffer (k + 1) (at + 2 * (getD rects (4 * k + 2) 0 - getD rects (4 * k) 0 - 1)) out′
-    cell-ranges out′ e =
+        → AllRangesWritten rects n offsets buffer (k + 1) (at + 2 * (getD rects (4 * k + 2) 0 - getD rects (4 * k) 0 - 1)) out′
+    allRangesWritten-next out′ e =
         record {
           inside = w .inside;
           small = w .small;
@@ -68,32 +68,32 @@ module _ (rects : List ℕ) (n : ℕ) (offsets buffer : List ℕ) (k at : ℕ) (
           place = place-next;
           entries =
               write-more (rangeEntries offsets) (rectsOf n rects) 0 buffer out k noRect (rw length-rects h) (w .entries) at out′ (rw zero-add (w .place))
-              (rw (entries-here, length-ranges offsets (rectIn rects k)) (omega (arith, ranges-fit, w .entries .kept)))
-              (rw (entries-here, length-ranges offsets (rectIn rects k)) e);
+              (rw (entries-here, rangeEntries-length offsets (rectIn rects k)) (omega (arith, allRangesWritten-room, w .entries .kept)))
+              (rw (entries-here, rangeEntries-length offsets (rectIn rects k)) e);
         }
 
-  pub all-ranges : n ≤ k → out ≡ over (allRanges offsets (rectsOf n rects)) buffer
-  all-ranges h = all-written (rangeEntries offsets) (rectsOf n rects) 0 buffer out k (rw length-rects h) (w .entries) ∙ rw zero-add
+  pub allRangesWritten-all : n ≤ k → out ≡ over (allRanges offsets (rectsOf n rects)) buffer
+  allRangesWritten-all h = all-written (rangeEntries offsets) (rectsOf n rects) 0 buffer out k (rw length-rects h) (w .entries) ∙ rw zero-add
 
 -- ---- how many
-pub record Counted (rects : List ℕ) (n k count : ℕ) : Type 0 where
+pub record RangesCounted (rects : List ℕ) (n k count : ℕ) : Type 0 where
   pub inside : AllInside rects n
   pub few : count ≤ 128 * k
   pub counted : count ≡ sum (map (λ (q : Rect). q .bottom - q .top - 1) (take k (rectsOf n rects)))
 
-pub none-counted : (rects : List ℕ) (n : ℕ) → ((r : Rect) → List·Memᴰ r (rectsOf n rects) → Inside 128 128 r) → Counted rects n 0 0
+pub rangesCounted-none : (rects : List ℕ) (n : ℕ) → ((r : Rect) → List·Memᴰ r (rectsOf n rects) → Inside 128 128 r) → RangesCounted rects n 0 0
 unfolding sum
-none-counted rects n inside = record { inside = record { each = inside }; few = omega arith; counted = refl }
+rangesCounted-none rects n inside = record { inside = record { each = inside }; few = omega arith; counted = refl }
 
-module _ (rects : List ℕ) (n k count : ℕ) (c : Counted rects n k count) where
+module _ (rects : List ℕ) (n k count : ℕ) (c : RangesCounted rects n k count) where
   module _ (h : k < n) where
-    pub count-fits : n ≤ 1024 → Fits w64 (count + (getD rects (4 * k + 2) 0 - getD rects (4 * k) 0 - 1))
-    count-fits few = record { fits = omega (arith, c .few, bottom-small rects n k (c .inside) h) }
+    pub rangesCounted-fits : n ≤ 1024 → Fits w64 (count + (getD rects (4 * k + 2) 0 - getD rects (4 * k) 0 - 1))
+    rangesCounted-fits few = record { fits = omega (arith, c .few, bottom-small rects n k (c .inside) h) }
 
-    pub count-more : Counted rects n (k + 1) (count + (getD rects (4 * k + 2) 0 - getD rects (4 * k) 0 - 1))
-    count-more =
+    pub rangesCounted-next : RangesCounted rects n (k + 1) (count + (getD rects (4 * k + 2) 0 - getD rects (4 * k) 0 - 1))
+    rangesCounted-next =
         let more = rw (getD-rects n k rects noRect h) at (sum-more (λ (q : Rect). q .bottom - q .top - 1) (rectsOf n rects) k noRect (rw length-rects h)) in
         record { inside = c .inside; few = omega (arith, c .few, bottom-small rects n k (c .inside) h); counted = rw (c .counted) (sym more) }
 
-  pub all-counted : n ≤ k → count ≡ sum (map (λ (q : Rect). q .bottom - q .top - 1) (rectsOf n rects))
-  all-counted h = c .counted ∙ rw (take-all k (rectsOf n rects) (rw length-rects h))
+  pub rangesCounted-all : n ≤ k → count ≡ sum (map (λ (q : Rect). q .bottom - q .top - 1) (rectsOf n rects))
+  rangesCounted-all h = c .counted ∙ rw (take-all k (rectsOf n rects) (rw length-rects h))

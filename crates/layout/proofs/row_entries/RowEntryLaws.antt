@@ -17,20 +17,20 @@ use Rattle.representation.proofs.HeldLaws.{nobody, length-pairs, pair-at}
 pub record RowsWritten (p : Parts) (rows : Bounds) (buffer : List ℕ) (k : ℕ) (out : List ℕ) : Type 0 where
   pub entries : Written (λ (b : Between). sectionFrom p (b .from) ∷ b .from ∷ b .to ∷ []) (between (linesHeld rows)) 0 buffer k out
 
-pub no-row : (p : Parts) (rows : Bounds) (buffer : List ℕ) → RowsWritten p rows buffer 0 buffer
-no-row p rows buffer = record { entries = none-written (λ (b : Between). sectionFrom p (b .from) ∷ b .from ∷ b .to ∷ []) (between (linesHeld rows)) 0 buffer }
+pub rowsWritten-none : (p : Parts) (rows : Bounds) (buffer : List ℕ) → RowsWritten p rows buffer 0 buffer
+rowsWritten-none p rows buffer = record { entries = none-written (λ (b : Between). sectionFrom p (b .from) ∷ b .from ∷ b .to ∷ []) (between (linesHeld rows)) 0 buffer }
 
 module _ (p : Parts) (rows : Bounds) (buffer out : List ℕ) (k : ℕ) (rising : Rising rows) (w : RowsWritten p rows buffer k out) where
-  pub row-next : (s : ℕ) → k + 1 < rows .count → 3 * (rows .count - 1) ≤ length buffer → s ≡ sectionFrom p (getD (rows .lines) k 0)
+  pub rowsWritten-next : (s : ℕ) → k + 1 < rows .count → 3 * (rows .count - 1) ≤ length buffer → s ≡ sectionFrom p (getD (rows .lines) k 0)
       → RowsWritten p rows buffer (k + 1) (set (set (set out (3 * k) s) (3 * k + 1) (getD (rows .lines) k 0)) (3 * k + 2) (getD (rows .lines) (k + 1) 0))
-  row-next s h room e =
+  rowsWritten-next s h room e =
       let two : 3 * k + 2 ≡ suc (suc (3 * k)) = omega arith in
       let step =
       write-sets (λ (b : Between). sectionFrom p (b .from) ∷ b .from ∷ b .to ∷ []) (between (linesHeld rows)) 0 buffer out k nobody
       (omega (arith, length-pairs rows k rising)) (w .entries) 3 (λ b. refl) (rw (length-pairs rows k rising) (omega arith)) in
       record { entries = rw (e, two, add-one (3 * k)) (rw (pair-at rows k rising h, zero-add) at step) }
 
-  pub rows-done : rows .count ≤ k + 1 → out ≡ over (rowEntries p (linesHeld rows)) buffer
-  rows-done h =
+  pub rowsWritten-all : rows .count ≤ k + 1 → out ≡ over (rowEntries p (linesHeld rows)) buffer
+  rowsWritten-all h =
       all-written (λ (b : Between). sectionFrom p (b .from) ∷ b .from ∷ b .to ∷ []) (between (linesHeld rows)) 0 buffer out k
       (omega (arith, length-pairs rows k rising)) (w .entries) ∙ rw zero-add

@@ -21,24 +21,24 @@ last-two last (suc n) (a ∷ b ∷ []) h = absurd (omega arith)
 last-two last (suc n) (a ∷ b ∷ c ∷ l) h = last-two last n (b ∷ c ∷ l) (omega arith)
 
 module _ (lines : List ℕ) (count height : ℕ) where
-  pub no-head : count ≡ 0 → 0 ≡ orDefault 0 (firstOf (take count lines))
-  no-head e = rw e
+  pub headEnd-none : count ≡ 0 → 0 ≡ orDefault 0 (firstOf (take count lines))
+  headEnd-none e = rw e
 
-  pub no-part : count ≡ 0 → 128 ≡ orDefault 128 (lastButOne (height - 1) (take count lines))
+  pub footStart-none : count ≡ 0 → 128 ≡ orDefault 128 (lastButOne (height - 1) (take count lines))
   unfolding lastButOne
-  no-part e = rw e
+  footStart-none e = rw e
 
   module _ (room : length lines ≡ 128) (few : count ≤ 128) (some-part : count ≡ 0 → ⊥) where
-    pub head-found : getD lines 0 0 ≡ orDefault 0 (firstOf (take count lines))
-    head-found = go lines count (omega arith) (omega arith) where
+    pub headEnd-found : getD lines 0 0 ≡ orDefault 0 (firstOf (take count lines))
+    headEnd-found = go lines count (omega arith) (omega arith) where
       go : (l : List ℕ) (n : ℕ) → 0 < n → n ≤ length l → getD l 0 0 ≡ orDefault 0 (firstOf (take n l))
       go l zero pos h = absurd (omega arith)
       go [] (suc n) pos h = absurd (omega arith)
       go (a ∷ l) (suc n) pos h = refl
 
-    pub one-part : count ≡ 1 → 128 ≡ orDefault 128 (lastButOne (height - 1) (take count lines))
+    pub footStart-one : count ≡ 1 → 128 ≡ orDefault 128 (lastButOne (height - 1) (take count lines))
     unfolding lastButOne
-    one-part e = rw e (go lines) where
+    footStart-one e = rw e (go lines) where
       go : (l : List ℕ) → 128 ≡ orDefault 128 (lastButOne (height - 1) (take 1 l))
       go [] = refl
       go (a ∷ l) = refl
@@ -50,19 +50,19 @@ module _ (lines : List ℕ) (count height : ℕ) where
           let f : count - 1 ≡ suc (count - 2) = omega arith in
           ap (λ (n : ℕ). lastButOne (height - 1) (take n lines)) e ∙ rw f (last-two (height - 1) (count - 2) lines (omega arith))
 
-      pub foot-found : getD lines (count - 1) 0 ≡ height - 1 → getD lines (count - 2) 0 ≡ orDefault 128 (lastButOne (height - 1) (take count lines))
-      foot-found e = rw (last-parts, eq-eqb (getD lines (count - 1) 0) (height - 1) e)
+      pub footStart-found : getD lines (count - 1) 0 ≡ height - 1 → getD lines (count - 2) 0 ≡ orDefault 128 (lastButOne (height - 1) (take count lines))
+      footStart-found e = rw (last-parts, eq-eqb (getD lines (count - 1) 0) (height - 1) e)
 
-      pub no-foot : (getD lines (count - 1) 0 ≡ height - 1 → ⊥) → 128 ≡ orDefault 128 (lastButOne (height - 1) (take count lines))
-      no-foot e = rw (last-parts, ne-eqb (getD lines (count - 1) 0) (height - 1) e)
+      pub footStart-not-last : (getD lines (count - 1) 0 ≡ height - 1 → ⊥) → 128 ≡ orDefault 128 (lastButOne (height - 1) (take count lines))
+      footStart-not-last e = rw (last-parts, ne-eqb (getD lines (count - 1) 0) (height - 1) e)
 
 -- ---- sections
 module _ (p : Parts) (top : ℕ) where
-  pub in-head : top < p .head → 0 ≡ sectionFrom p top
-  in-head h = rw (lt-ltb top (p .head) h)
+  pub sectionFrom-head : top < p .head → 0 ≡ sectionFrom p top
+  sectionFrom-head h = rw (lt-ltb top (p .head) h)
 
-  pub in-foot : p .head ≤ top → p .foot ≤ top → 2 ≡ sectionFrom p top
-  in-foot h g = rw (le-ltb top (p .head) h, le-leb (p .foot) top g)
+  pub sectionFrom-foot : p .head ≤ top → p .foot ≤ top → 2 ≡ sectionFrom p top
+  sectionFrom-foot h g = rw (le-ltb top (p .head) h, le-leb (p .foot) top g)
 
-  pub in-body : p .head ≤ top → top < p .foot → 1 ≡ sectionFrom p top
-  in-body h g = rw (le-ltb top (p .head) h, lt-leb (p .foot) top g)
+  pub sectionFrom-body : p .head ≤ top → top < p .foot → 1 ≡ sectionFrom p top
+  sectionFrom-body h g = rw (le-ltb top (p .head) h, lt-leb (p .foot) top g)

@@ -19,22 +19,22 @@ use Rattle.grid.proofs.CellTexts.{all-lines}
 
 -- A layout that is read
 
-pub record Laid (lines : List Line) (l : Layout) : Type 0 where
+pub record LayoutRead (lines : List Line) (l : Layout) : Type 0 where
   pub rects : List Rect
   pub checks : Passed lines rects
   pub made : l ≡ layoutOf lines (gridOf lines) rects
 
-pub laid : (lines : List Line) (l : Layout) → readLayout lines ≡ accept l → Laid lines l
-laid lines l e =
+pub layoutRead-made : (lines : List Line) (l : Layout) → readLayout lines ≡ accept l → LayoutRead lines l
+layoutRead-made lines l e =
     let (rs, read, made) = layout-read lines l e in
     record { rects = rs; checks = passed lines rs read; made = made }
 
-pub record Small (l : Layout) : Type 0 where
+pub record LayoutSmall (l : Layout) : Type 0 where
   pub columns : length (l .columns) ≤ 127
   pub rows : length (l .rows) ≤ 127
   pub cells : length (l .cells) ≤ 1024
 
-pub layout-small : (lines : List Line) (l : Layout) → Laid lines l → Small l
+pub layout-small : (lines : List Line) (l : Layout) → LayoutRead lines l → LayoutSmall l
 unfolding layoutOf
 layout-small lines l h =
     let g = gridOf lines in
@@ -55,7 +55,7 @@ pub record Rooms (out : LayoutArrays) : Type 0 where
   pub cells : length (out .cells) ≡ 5120
   pub ranges : length (out .ranges) ≡ 32768
 
-pub layout-fits : (lines : List Line) (l : Layout) (out : LayoutArrays) → Laid lines l → Rooms out → layoutShort out (layoutArrays l) ≡ false
+pub layout-fits : (lines : List Line) (l : Layout) (out : LayoutArrays) → LayoutRead lines l → Rooms out → layoutShort out (layoutArrays l) ≡ false
 layout-fits lines l out h o =
     let g = gridOf lines in
     let rs = h .rects in

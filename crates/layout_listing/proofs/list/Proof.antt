@@ -1,7 +1,7 @@
 -- `layout_listing::list` meets its contract: each return by what splitting tells.
 use Rattle.printing.proofs.PutLaws.{prints-as}
 use Rattle.input_lines.proofs.SheetLaws.{lines-fit, bytes-fit, parts-agree}
-use Rattle.layout_listing.proofs.InputLaws.{large-listed, held-listed}
+use Rattle.layout_listing.proofs.InputLaws.{listing-large, listing-held}
 use borrow.Author.Needs.{needs}
 use Rattle.layout_listing.proofs.list.Statement.{statement}
 use Rattle.layout_listing.proofs.list.Tie as tie
@@ -44,21 +44,22 @@ part-list-lines-end-2 c = search bytes-fit
 
 list-lines-requires : tie.Need-list-lines-requires
 list-lines-requires c κs =
-    let split = c .before .before .before .before .before .before .before .before .before .before .split-lines in
-    let agree = parts-agree _ _ _ _ _ _ (c .before .before .before .before .before .before .lines .given .1) (split .ensures .0) (split .ensures .1) in
+    let split : tie.After-split-lines = search needs in
+    let arm : tie.After-lines = search needs in
+    let agree = parts-agree _ _ _ _ _ _ (arm .lines .given .1) (split .split-lines .ensures .0) (split .split-lines .ensures .1) in
     (agree .0, agree .1, search needs)
 
 same-length : tie.Need-same-length
 same-length c = search needs
 
 returns : tie.Need-returns
-returns c = prints-as (c .before .before .refused .ensures) (search large-listed)
+returns c = prints-as (c .before .before .refused .ensures) (search listing-large)
 
 same-length-2 : tie.Need-same-length-2
 same-length-2 c = search needs
 
 returns-2 : tie.Need-returns-2
-returns-2 c = prints-as (c .before .before .list-lines .ensures) (search held-listed)
+returns-2 c = prints-as (c .before .before .list-lines .ensures) (search listing-held)
 
 pub list-spec : {M : Type 1} → statement M
 list-spec =

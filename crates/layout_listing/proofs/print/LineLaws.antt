@@ -15,7 +15,7 @@ use Rattle.grid.specs.Flat.{codeAlignment, codeSection, columnsOfArray}
 use Rattle.grid.specs.Listing.{lineFeed, printed, numbered, columnLine, rowLine, alignmentLetter, sectionLetter}
 use Rattle.printing.specs.Printing.{Put, Prints, spaced, cellPrinted}
 use Rattle.printing.proofs.PutLaws.{put-none, put-then, put-as, put-most, put-prints}
-use Rattle.layout_listing.specs.Printing.{columnOf, rowOf, rowsOfArray, innerLines, gridPrinted, cellsPrinted, tablePrinted}
+use Rattle.layout_listing.specs.Printing.{columnOf, rowOf, rowsOfArray, innerHeight, gridPrinted, cellsPrinted, tablePrinted}
 
 -- the first words of the lines, in bytes
 abbrev gridWord : List ℕ
@@ -85,7 +85,7 @@ row-put index section top bottom letter p q w v =
 
 pub inner-told : (rows : List ℕ) (row span top past bottom between r : ℕ) → (top ≡ getD rows (3 * row + 1) 0) × (top < 65536)
     → past ≡ 3 * (row + span) - 1 → (bottom ≡ getD rows past 0) × (bottom < 65536) → between ≡ bottom - top → r ≡ between - 1
-    → r ≡ innerLines rows row span
+    → r ≡ innerHeight rows row span
 inner-told rows row span top past bottom between r t p b w e = cc
 
 -- Lines one after another
@@ -147,7 +147,7 @@ rows-next i array =
     rw (add-one i, rows-snoc i array, numbered-snoc rowLine 0 (rowsOfArray i array) (rowAt i array), at)
 
 abbrev cellAt : ℕ → List ℕ → List ℕ → List ℕ
-cellAt i rows cells = cellPrinted cells i (innerLines rows (getD cells (5 * i) 0) (getD cells (5 * i + 3) 0))
+cellAt i rows cells = cellPrinted cells i (innerHeight rows (getD cells (5 * i) 0) (getD cells (5 * i + 3) 0))
 
 cells-snoc : (n : ℕ) (rows cells : List ℕ) → cellsPrinted (suc n) rows cells ≡ cellsPrinted n rows cells ++ cellAt n rows cells
 unfolding cellsPrinted
@@ -176,7 +176,7 @@ module _ {d e f : List ℕ} {at end r : ℕ} where
       let line : rowLine i (rowOf section top bottom) ≡ rowLine i (rowAt i array) = rw (s .0, t .0, b .0) in
       put-most (put-as (put-then p (put-as q line)) (sym (rows-next i array))) (omega arith)
 
-  pub cells-put : (rows cells : List ℕ) (i row rowspan inner : ℕ) → (row ≡ getD cells (5 * i) 0) × (row < 65536) → (rowspan ≡ getD cells (5 * i + 3) 0) × (rowspan < 65536) → inner ≡ innerLines rows row rowspan
+  pub cells-put : (rows cells : List ℕ) (i row rowspan inner : ℕ) → (row ≡ getD cells (5 * i) 0) × (row < 65536) → (rowspan ≡ getD cells (5 * i + 3) 0) × (rowspan < 65536) → inner ≡ innerHeight rows row rowspan
       → Put (110 * i) d e at end (cellsPrinted i rows cells) → Put 110 e f end r (cellPrinted cells i inner)
       → Put (110 * (i + 1)) d f at r (cellsPrinted (i + 1) rows cells)
   cells-put rows cells i row rowspan inner a y z p q =

@@ -8,7 +8,7 @@ use Rattle.seq.proofs.Ranges.{length-range}
 use Rattle.seq.proofs.Rising.{position, position-lt}
 use Rattle.grid.specs.Values.{Rect, GridTableColumn, Row, Cell}
 use Rattle.grid.specs.Slots.{Grid}
-use Rattle.grid.specs.Layout.{Between, between, rowLines, indexOf, sectionAt, rowsRead, innerLines as linesInside, contentAt, cellRead}
+use Rattle.grid.specs.Layout.{Between, between, rowLines, indexOf, sectionAt, rowsRead, innerLines, contentAt, cellRead}
 use Rattle.grid.specs.Cover.{Cover}
 use Rattle.grid.specs.Flat.{codeAlignment, alignmentCode, codeSection, sectionCode, columnNumbers, columnsOfArray}
 use Rattle.grid.specs.LayoutCall.{rowNumbers, cellNumbers}
@@ -18,7 +18,7 @@ use Rattle.grid.specs.declared.TableAlignment.the-variants.{None, Left, Right, 
 use Rattle.grid.specs.declared.GridTableSection.{GridTableSection}
 use Rattle.grid.specs.declared.GridTableSection.the-variants.{Head, Body, Foot}
 use Rattle.grid.proofs.LayoutLaws.{rowLines-rise, top-line, bottom-line}
-use Rattle.layout_listing.specs.Printing.{rowsOfArray, innerLines, cellsPrinted}
+use Rattle.layout_listing.specs.Printing.{rowsOfArray, innerHeight, cellsPrinted}
 
 alignment-back : (a : TableAlignment) → codeAlignment (alignmentCode a) ≡ a
 alignment-back None = refl
@@ -42,7 +42,7 @@ rows-back [] rest = refl
 rows-back (r ∷ rs) rest = rw (section-back (r .section)) (ap (λ (l : List Row). r ∷ l) (rows-back rs rest))
 
 pub cells-back : (cells : List Cell) (rows rest : List ℕ)
-    → ((c : Cell) → List·Memᴰ c cells → innerLines rows (c .row) (c .rowspan) ≡ length (c .content))
+    → ((c : Cell) → List·Memᴰ c cells → innerHeight rows (c .row) (c .rowspan) ≡ length (c .content))
     → cellsPrinted (length cells) rows (flatMap cellNumbers cells ++ rest) ≡ flatMap cellLine cells
 unfolding cellsPrinted flatMap
 cells-back [] rows rest inner = refl
@@ -75,7 +75,7 @@ module _ (g : Grid) where
 
   module _ (rs : List Rect) (cover : Cover g rs) (rest : List ℕ) where
     inner-rect : (r : Rect) → List·Memᴰ r rs
-        → innerLines (flatMap rowNumbers (rowsRead g rs) ++ rest) (cellRead g rs r .row) (cellRead g rs r .rowspan) ≡ length (cellRead g rs r .content)
+        → innerHeight (flatMap rowNumbers (rowsRead g rs) ++ rest) (cellRead g rs r .row) (cellRead g rs r .rowspan) ≡ length (cellRead g rs r .content)
     unfolding rowsRead cellRead indexOf
     inner-rect r m =
         let rise = rowLines-rise g rs in
@@ -88,12 +88,12 @@ module _ (g : Grid) where
         let at : 3 * (a + (b - a)) - 1 ≡ 3 * (b - 1) + 2 = omega arith in
         let low = tops-at (rowLines g rs) a rest (omega (arith, bottom .inside)) in
         let high = bottoms-at (rowLines g rs) (b - 1) rest (omega (arith, bottom .inside)) in
-        rw (at, low, high, last, top .here, bottom .here) (sym (length-map (linesInside r) (contentAt g r) ∙ length-range _ _))
+        rw (at, low, high, last, top .here, bottom .here) (sym (length-map (innerLines r) (contentAt g r) ∙ length-range _ _))
 
     pub inner-cells : (c : Cell) → List·Memᴰ c (map (cellRead g rs) rs)
-        → innerLines (flatMap rowNumbers (rowsRead g rs) ++ rest) (c .row) (c .rowspan) ≡ length (c .content)
+        → innerHeight (flatMap rowNumbers (rowsRead g rs) ++ rest) (c .row) (c .rowspan) ≡ length (c .content)
     inner-cells c m = go rs (λ r n. inner-rect r n) m where
-      go : (qs : List Rect) → ((r : Rect) → List·Memᴰ r qs → innerLines (flatMap rowNumbers (rowsRead g rs) ++ rest) (cellRead g rs r .row) (cellRead g rs r .rowspan) ≡ length (cellRead g rs r .content))
-          → List·Memᴰ c (map (cellRead g rs) qs) → innerLines (flatMap rowNumbers (rowsRead g rs) ++ rest) (c .row) (c .rowspan) ≡ length (c .content)
+      go : (qs : List Rect) → ((r : Rect) → List·Memᴰ r qs → innerHeight (flatMap rowNumbers (rowsRead g rs) ++ rest) (cellRead g rs r .row) (cellRead g rs r .rowspan) ≡ length (cellRead g rs r .content))
+          → List·Memᴰ c (map (cellRead g rs) qs) → innerHeight (flatMap rowNumbers (rowsRead g rs) ++ rest) (c .row) (c .rowspan) ≡ length (c .content)
       go (q ∷ qs) all (List·Memᴰ·head e) = rw e (all q (List·Memᴰ·head refl))
       go (q ∷ qs) all (List·Memᴰ·tail n) = go qs (λ r k. all r (List·Memᴰ·tail k)) n

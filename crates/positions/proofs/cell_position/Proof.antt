@@ -1,5 +1,5 @@
 -- `positions::cell_position` meets its contract: a refusal of the checks, or the position finished.
-use Rattle.positions.proofs.SpansLaws.{cells}
+use Rattle.positions.proofs.SpansLaws.{placed-cells}
 use Rattle.positions.proofs.CallLaws.{cell-position-refused, cell-position-finished}
 use borrow.Author.Needs.{needs}
 use Rattle.positions.proofs.cell_position.Statement.{statement}
@@ -7,10 +7,10 @@ use Rattle.positions.proofs.cell_position.Tie as tie
 
 -- where reading has returned, before a refusal and before the position is finished
 abbrev refused-read : tie.Then1 → tie.After-read-placed
-refused-read c = c .before .before .before .before .before .before .before .before .before .before .before .before
+refused-read c = search needs
 
 abbrev passed-read : tie.Else1 → tie.After-read-placed
-passed-read c = c .before .before .before .before .before .before .before .before .before .before .before .before
+passed-read c = search needs
 
 read-placed-requires : tie.Need-read-placed-requires
 read-placed-requires c κs = search needs
@@ -31,13 +31,13 @@ same-length-5 : tie.Need-same-length-5
 same-length-5 c = search needs
 
 returns : tie.Need-returns
-returns c = cell-position-refused _ _ _ _ _ _ _ _ _ _ _ _ _ (refused-read c .read-placed .ensures .0) _ (c .if1 .taken)
+returns c = cell-position-refused _ _ _ _ _ _ _ _ (refused-read c .read-placed .ensures .0) _ (c .if1 .taken)
 
 finish-cell-requires : tie.Need-finish-cell-requires
 finish-cell-requires c κs =
-    let passed = c .before .before in
+    let passed : tie.Else1 = search needs in
     let read = passed-read passed .read-placed .ensures in
-    cells _ _ _ _ _ _ _ (read .0 .traced (passed .if1 .left)) _ _ _ (read .1 (passed .if1 .left))
+    placed-cells (read .0 .traced (passed .if1 .left)) _ _ (read .1 (passed .if1 .left))
 
 same-length-6 : tie.Need-same-length-6
 same-length-6 c = search needs
@@ -56,8 +56,8 @@ same-length-10 c = search needs
 
 returns-2 : tie.Need-returns-2
 returns-2 c =
-    let passed = c .before .before .before in
-    cell-position-finished _ _ _ _ _ _ _ _ _ _ _ _ _ (passed-read passed .read-placed .ensures .0) (passed .if1 .left) _ _ (c .finish-cell .ensures)
+    let passed : tie.Else1 = search needs in
+    cell-position-finished _ _ _ _ _ _ _ _ (passed-read passed .read-placed .ensures .0) (passed .if1 .left) _ _ (c .finish-cell .ensures)
 
 pub cell-position-spec : {M : Type 1} → statement M
 cell-position-spec =

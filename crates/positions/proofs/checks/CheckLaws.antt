@@ -40,20 +40,20 @@ module _ (w : LayoutSpace) (starts lines bytes : ℕ) (lengths columns text numb
     unfolding placedContradicts startsShort
     spaced = or-neither (drawingContradicts d || spaceShort w || ltb starts maxLines) (not (eqb (length numbers) lines && eqb (length tableBytes) lines)) passed
 
-    pub read-passed : (drawingContradicts d || spaceShort w ≡ false) × (ltb starts maxLines ≡ false)
-    read-passed = or-neither (drawingContradicts d || spaceShort w) (ltb starts maxLines) (spaced .0)
+    pub placedContradicts-passed : (drawingContradicts d || spaceShort w ≡ false) × (ltb starts maxLines ≡ false)
+    placedContradicts-passed = or-neither (drawingContradicts d || spaceShort w) (ltb starts maxLines) (spaced .0)
 
-    pub lengths-agree : (length numbers ≡ length lengths) × (length tableBytes ≡ length lengths)
-    lengths-agree =
-        let sized = sizes lines bytes lengths columns text (drawingContradicts d) refl (or-neither (drawingContradicts d) (spaceShort w) (read-passed .0) .0) .0 in
+    pub placedContradicts-lengths : (length numbers ≡ length lengths) × (length tableBytes ≡ length lengths)
+    placedContradicts-lengths =
+        let sized = sizes lines bytes lengths columns text (drawingContradicts d) refl (or-neither (drawingContradicts d) (spaceShort w) (placedContradicts-passed .0) .0) .0 in
         let both = not-false (eqb (length numbers) lines && eqb (length tableBytes) lines) (spaced .1) in
         let first = eqb-true (length numbers) lines (and-left (eqb (length numbers) lines) (eqb (length tableBytes) lines) both) in
         let second = eqb-true (length tableBytes) lines (and-right (eqb (length numbers) lines) (eqb (length tableBytes) lines) both) in
         (omega arith, omega arith)
 
-    pub over-told : numbersTooLarge given ≡ anyOver maxRegister numbers || anyOver maxRegister tableBytes
+    pub numbersTooLarge-told : numbersTooLarge given ≡ anyOver maxRegister numbers || anyOver maxRegister tableBytes
     unfolding numbersTooLarge linesOf anyOver
-    over-told = over-lines lengths columns text numbers tableBytes lengths-agree
+    numbersTooLarge-told = over-lines lengths columns text numbers tableBytes placedContradicts-lengths
 
   -- ---- the checks in their order
   module _ (a s : Bool) (told : a ≡ drawingContradicts d) (short : s ≡ spaceShort w) where
@@ -64,15 +64,15 @@ module _ (w : LayoutSpace) (starts lines bytes : ℕ) (lengths columns text numb
     unfolding placedContradicts startsShort
     test-told = rw (told, short)
 
-    pub contradicted : test ≡ true → 13 ≡ placedNumber w starts given
-    contradicted e = rw (test-told, e)
+    pub placedNumber-contradicted : test ≡ true → 13 ≡ placedNumber w starts given
+    placedNumber-contradicted e = rw (test-told, e)
 
     module _ (passed : test ≡ false) (o p : Bool) (numbersOver : o ≡ anyOver maxRegister numbers) (bytesOver : p ≡ anyOver maxRegister tableBytes) where
       large-told : numbersTooLarge given ≡ o || p
-      large-told = over-told (test-told ∙ passed) ∙ rw (numbersOver, bytesOver)
+      large-told = numbersTooLarge-told (test-told ∙ passed) ∙ rw (numbersOver, bytesOver)
 
-      pub too-large : o || p ≡ true → 2 ≡ placedNumber w starts given
-      too-large e = rw (test-told, passed, large-told, e)
+      pub placedNumber-too-large : o || p ≡ true → 2 ≡ placedNumber w starts given
+      placedNumber-too-large e = rw (test-told, passed, large-told, e)
 
-      pub none-large : o || p ≡ false → 0 ≡ placedNumber w starts given
-      none-large e = rw (test-told, passed, large-told, e)
+      pub placedNumber-passed : o || p ≡ false → 0 ≡ placedNumber w starts given
+      placedNumber-passed e = rw (test-told, passed, large-told, e)

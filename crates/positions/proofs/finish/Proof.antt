@@ -2,29 +2,29 @@
 use native.Mathlib.Omega.{arith}
 use denote.Ref.{now}
 use Rattle.sourcepos.specs.PositionsCall.{positionsLent}
-use Rattle.positions.proofs.FinishLaws.{refused-short, rows-asked, cells-asked, whole-asked, found-written}
+use Rattle.positions.proofs.FinishLaws.{spans-refused, rowSpans-asked, rectSpans-asked, wholeLines-asked, spans-written}
 use borrow.Author.Needs.{needs}
 use Rattle.positions.proofs.finish.Statement.{statement}
 use Rattle.positions.proofs.finish.Tie as tie
 
 -- the places of the proof, from the last back to the first
 abbrev cells-written : tie.After-whole-lines → tie.After-write-cells
-cells-written c = c .before .before .before .before
+cells-written c = search needs
 
 abbrev rows-written : tie.After-write-cells → tie.After-write-rows
-rows-written c = c .before .before .before .before
+rows-written c = search needs
 
 abbrev started : tie.After-write-rows → tie.After-line-starts
-started c = c .before .before .before .before .before
+started c = search needs
 
 abbrev tested : tie.After-line-starts → tie.Else1
-tested c = c .before .before
+tested c = search needs
 
 abbrev collected : tie.Else1 → tie.After-row-bounds
-collected c = c .before .before
+collected c = search needs
 
 abbrev begun : tie.After-row-bounds → tie.Start
-begun c = c .before .before .before .before .before .before .before .before .before .before
+begun c = search needs
 
 row-bounds-requires : tie.Need-row-bounds-requires
 row-bounds-requires c κs = search needs
@@ -39,37 +39,36 @@ mul-if1-2 : tie.Need-mul-if1-2
 mul-if1-2 c = search needs
 
 returns : tie.Need-returns
-returns c =
-    let found = c .before .before in
-    let a = begun found .args in
-    refused-short _ _ _ _ _ _ _ (now (a .starts)) (begun found .pre) _ (found .row-bounds .ensures) (positionsLent (now (a .row-positions)) (now (a .cell-positions))) (c .if1 .taken)
+returns c = let found : tie.After-row-bounds = search needs in spans-refused (begun found .pre) (found .row-bounds .ensures) _ (c .if1 .taken)
 
 line-starts-requires : tie.Need-line-starts-requires
 line-starts-requires c κs = search needs
 
 write-rows-requires : tie.Need-write-rows-requires
 write-rows-requires c κs =
-    let lines = c .before .before .before .before in
+    let lines : tie.After-line-starts = search needs in
     let found = collected (tested lines) in
     let a = begun found .args in
-    rows-asked _ _ _ _ _ _ _ (now (a .starts)) (begun found .pre) _ (found .row-bounds .ensures) (positionsLent (now (a .row-positions)) (now (a .cell-positions))) (tested lines .if1 .left) _ (lines .line-starts .ensures)
+    rowSpans-asked (begun found .pre) (found .row-bounds .ensures) (positionsLent (now (a .row-positions)) (now (a .cell-positions))) (tested lines .if1 .left) _ (lines .line-starts .ensures)
 
 write-cells-requires : tie.Need-write-cells-requires
 write-cells-requires c κs =
-    let lines = started (c .before .before .before) in
-    let found = collected (tested lines) in
+    let wrote : tie.After-write-rows = search needs in
+    let passed = tested (started wrote) in
+    let found = collected passed in
     let a = begun found .args in
-    cells-asked _ _ _ _ _ _ _ (now (a .starts)) (begun found .pre) _ (found .row-bounds .ensures) (positionsLent (now (a .row-positions)) (now (a .cell-positions))) (tested lines .if1 .left)
+    rectSpans-asked (begun found .pre) (found .row-bounds .ensures) (positionsLent (now (a .row-positions)) (now (a .cell-positions))) (passed .if1 .left)
 
 sub-whole-lines : tie.Need-sub-whole-lines
-sub-whole-lines c = omega (arith, begun (collected (tested (started (rows-written (c .before .before .before))))) .pre .someLine)
+sub-whole-lines c =
+    let wrote : tie.After-write-cells = search needs in
+    omega (arith, begun (collected (tested (started (rows-written wrote)))) .pre .someLine)
 
 whole-lines-requires : tie.Need-whole-lines-requires
 whole-lines-requires c κs =
-    let lines = started (rows-written (c .before .before .before)) in
-    let found = collected (tested lines) in
-    let a = begun found .args in
-    whole-asked _ _ _ _ _ _ _ (now (a .starts)) (begun found .pre) _ (lines .line-starts .ensures)
+    let wrote : tie.After-write-cells = search needs in
+    let lines = started (rows-written wrote) in
+    wholeLines-asked (begun (collected (tested lines)) .pre) _ (lines .line-starts .ensures)
 
 same-length : tie.Need-same-length
 same-length c = search needs
@@ -84,10 +83,9 @@ returns-2 : tie.Need-returns-2
 returns-2 c =
     let cells = cells-written c in
     let rows = rows-written cells in
-    let lines = started rows in
-    let found = collected (tested lines) in
-    let a = begun found .args in
-    found-written _ _ _ _ _ _ _ (now (a .starts)) (begun found .pre) _ (found .row-bounds .ensures) (positionsLent (now (a .row-positions)) (now (a .cell-positions))) (tested lines .if1 .left) _ (c .whole-lines .ensures) _ _
+    let passed = tested (started rows) in
+    let found = collected passed in
+    spans-written (begun found .pre) (found .row-bounds .ensures) _ (passed .if1 .left) _ (c .whole-lines .ensures) _ _
     (rows .write-rows .ensures) (cells .write-cells .ensures)
 
 pub finish-spec : {M : Type 1} → statement M

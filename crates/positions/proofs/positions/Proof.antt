@@ -1,5 +1,5 @@
 -- `positions::positions` meets its contract: a refusal of the checks, or the positions finished.
-use Rattle.positions.proofs.SpansLaws.{rows-and-cells}
+use Rattle.positions.proofs.SpansLaws.{placed-rows-and-cells}
 use Rattle.positions.proofs.CallLaws.{positions-refused, positions-finished}
 use borrow.Author.Needs.{needs}
 use Rattle.positions.proofs.positions.Statement.{statement}
@@ -7,17 +7,17 @@ use Rattle.positions.proofs.positions.Tie as tie
 
 -- where reading has returned, before a refusal and before the positions are finished
 abbrev refused-read : tie.Then1 → tie.After-read-placed
-refused-read c = c .before .before .before .before .before .before .before .before .before .before .before .before
+refused-read c = search needs
 
 abbrev passed-read : tie.Else1 → tie.After-read-placed
-passed-read c = c .before .before .before .before .before .before .before .before .before .before .before .before
+passed-read c = search needs
 
 -- where the positions are finished, and before that
 abbrev placed : tie.After-slice-known16 → tie.After-finish
-placed c = c .before .before .before .before .before .before
+placed c = search needs
 
 abbrev finishing : tie.After-finish → tie.Else1
-finishing c = c .before .before .before .before .before .before
+finishing c = search needs
 
 read-placed-requires : tie.Need-read-placed-requires
 read-placed-requires c κs = search needs
@@ -38,13 +38,13 @@ same-length-5 : tie.Need-same-length-5
 same-length-5 c = search needs
 
 returns : tie.Need-returns
-returns c = positions-refused _ _ _ _ _ _ _ _ _ _ _ _ _ (refused-read c .read-placed .ensures .0) _ (c .if1 .taken)
+returns c = positions-refused _ _ _ _ _ _ _ _ (refused-read c .read-placed .ensures .0) _ (c .if1 .taken)
 
 finish-requires : tie.Need-finish-requires
 finish-requires c κs =
-    let passed = c .before .before .before .before .before in
+    let passed : tie.Else1 = search needs in
     let read = passed-read passed .read-placed .ensures in
-    rows-and-cells _ _ _ _ _ _ _ (read .0 .traced (passed .if1 .left)) _ _ _ (read .1 (passed .if1 .left))
+    placed-rows-and-cells (read .0 .traced (passed .if1 .left)) _ _ (read .1 (passed .if1 .left))
 
 same-length-6 : tie.Need-same-length-6
 same-length-6 c = search needs
@@ -73,7 +73,7 @@ same-length-13 c = search needs
 returns-2 : tie.Need-returns-2
 returns-2 c =
     let passed = finishing (placed c) in
-    positions-finished _ _ _ _ _ _ _ _ _ _ _ _ _ (passed-read passed .read-placed .ensures .0) (passed .if1 .left) _ _ _ (placed c .finish .ensures)
+    positions-finished _ _ _ _ _ _ _ _ (passed-read passed .read-placed .ensures .0) (passed .if1 .left) _ _ _ (placed c .finish .ensures)
 
 pub positions-spec : {M : Type 1} → statement M
 positions-spec =

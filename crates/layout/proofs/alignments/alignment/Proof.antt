@@ -1,5 +1,5 @@
 -- `layout::alignments::alignment` meets its contract: from its calls.
-use Rattle.layout.proofs.alignments.AlignmentLaws.{segment-length, no-plus, past-end, alignment-found}
+use Rattle.layout.proofs.alignments.AlignmentLaws.{toPlus-length, alignmentFrom-no-plus, alignmentFrom-past-end, alignmentFrom-found}
 use borrow.Author.Needs.{needs}
 use Rattle.layout.proofs.alignments.alignment.Statement.{statement}
 use Rattle.layout.proofs.alignments.alignment.Tie as tie
@@ -14,7 +14,7 @@ shared-slice-read-if1 : tie.Need-shared-slice-read-if1
 shared-slice-read-if1 c = search needs
 
 returns : tie.Need-returns
-returns c = search no-plus
+returns c = search alignmentFrom-no-plus
 
 byte-at-requires : tie.Need-byte-at-requires
 byte-at-requires c κs = search needs
@@ -23,7 +23,7 @@ add-from : tie.Need-add-from
 add-from c = search needs
 
 returns-2 : tie.Need-returns-2
-returns-2 c = search past-end
+returns-2 c = search alignmentFrom-past-end
 
 sub-rest : tie.Need-sub-rest
 sub-rest c = search needs
@@ -38,13 +38,13 @@ segment-end-requires : tie.Need-segment-end-requires
 segment-end-requires c κs = search needs
 
 slice-aggregate-segment-alignment : tie.Need-slice-aggregate-segment-alignment
-slice-aggregate-segment-alignment c = search segment-length
+slice-aggregate-segment-alignment c = search toPlus-length
 
 segment-alignment-requires : tie.Need-segment-alignment-requires
 segment-alignment-requires c κs = search needs
 
 returns-3 : tie.Need-returns-3
-returns-3 c = search alignment-found
+returns-3 c = search alignmentFrom-found
 
 pub alignment-spec : {M : Type 1} → statement M
 alignment-spec =

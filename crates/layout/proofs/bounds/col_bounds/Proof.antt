@@ -1,5 +1,5 @@
 -- `layout::bounds::col_bounds` meets its contract: the lines collected from the marked edges.
-use Rattle.layout.proofs.bounds.EdgeLaws.{columns-collected}
+use Rattle.layout.proofs.bounds.EdgeLaws.{collected-columns}
 use borrow.Author.Needs.{needs}
 use Rattle.layout.proofs.bounds.col_bounds.Statement.{statement}
 use Rattle.layout.proofs.bounds.col_bounds.Tie as tie
@@ -11,7 +11,7 @@ collect-requires : tie.Need-collect-requires
 collect-requires c κs = search needs
 
 returns : tie.Need-returns
-returns c = search columns-collected
+returns c = search collected-columns
 
 pub col-bounds-spec : {M : Type 1} → statement M
 col-bounds-spec = tie.close (tie.spec edges-requires collect-requires returns)

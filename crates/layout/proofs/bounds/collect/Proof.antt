@@ -2,7 +2,7 @@
 use Prim.Native.Nat.{_-_, _≤_}
 use mathlib.Core.Logic.{⊎-elim}
 use Rattle.representation.specs.Edges.{markedBelow, Collected}
-use Rattle.layout.proofs.bounds.EdgeLaws.{none-collected, collect-line, collect-none, all-collected}
+use Rattle.layout.proofs.bounds.EdgeLaws.{collected-none, collected-line, collected-no-line, collected-all}
 use native.Mathlib.Omega.{arith}
 use borrow.Author.Needs.{needs}
 use Rattle.layout.proofs.bounds.collect.Statement.{statement}
@@ -15,7 +15,7 @@ abbrev μ-loop : tie.MeasureT-loop
 μ-loop size marks lines₀ index₀ count₀ x₀ lines index count x = size - x
 
 loop-holds : tie.Need-loop-holds Inv-loop μ-loop
-loop-holds c = search (needs, none-collected)
+loop-holds c = search (needs, collected-none)
 
 cast-index : tie.Need-cast-index Inv-loop μ-loop
 cast-index c = search needs
@@ -42,10 +42,10 @@ loop-less : tie.Need-loop-less Inv-loop μ-loop
 loop-less c = omega arith
 
 loop-again : tie.Need-loop-again Inv-loop μ-loop
-loop-again c = ⊎-elim (λ w. search (needs, collect-line)) (λ w. search (needs, collect-none)) (c .if1 .came)
+loop-again c = ⊎-elim (λ w. search (needs, collected-line)) (λ w. search (needs, collected-no-line)) (c .if1 .came)
 
 returns : tie.Need-returns Inv-loop μ-loop
-returns c = search all-collected
+returns c = search collected-all
 
 pub collect-spec : {M : Type 1} → statement M
 collect-spec =

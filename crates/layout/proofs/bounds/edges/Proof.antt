@@ -2,7 +2,7 @@
 use Prim.Native.Nat.{_-_, _≤_}
 use Rattle.representation.specs.Edges.{edgeList, Marks}
 use mir.Facts.{fits-8-64}
-use Rattle.layout.proofs.bounds.EdgeLaws.{no-marks, first-small, second-small, mark-more, all-marked}
+use Rattle.layout.proofs.bounds.EdgeLaws.{marks-none, first-small, second-small, marks-next, marks-all}
 use native.Mathlib.Omega.{arith}
 use borrow.Author.Needs.{needs}
 use Rattle.layout.proofs.bounds.edges.Statement.{statement}
@@ -15,7 +15,7 @@ abbrev μ-loop : tie.MeasureT-loop
 μ-loop rects n from marks₀ k₀ marks k = n - k
 
 loop-holds : tie.Need-loop-holds Inv-loop μ-loop
-loop-holds c = search (needs, no-marks)
+loop-holds c = search (needs, marks-none)
 
 mul-at : tie.Need-mul-at Inv-loop μ-loop
 mul-at c = omega arith
@@ -51,10 +51,10 @@ loop-less : tie.Need-loop-less Inv-loop μ-loop
 loop-less c = omega arith
 
 loop-again : tie.Need-loop-again Inv-loop μ-loop
-loop-again c = search (needs, mark-more, first-small, second-small)
+loop-again c = search (needs, marks-next, first-small, second-small)
 
 returns : tie.Need-returns Inv-loop μ-loop
-returns c = search all-marked
+returns c = search marks-all
 
 pub edges-spec : {M : Type 1} → statement M
 edges-spec =

@@ -1,5 +1,5 @@
 -- `layout::bounds::row_bounds` meets its contract: the lines collected from the marked edges.
-use Rattle.layout.proofs.bounds.EdgeLaws.{rows-collected}
+use Rattle.layout.proofs.bounds.EdgeLaws.{collected-rows}
 use borrow.Author.Needs.{needs}
 use Rattle.layout.proofs.bounds.row_bounds.Statement.{statement}
 use Rattle.layout.proofs.bounds.row_bounds.Tie as tie
@@ -11,7 +11,7 @@ collect-requires : tie.Need-collect-requires
 collect-requires c κs = search needs
 
 returns : tie.Need-returns
-returns c = search rows-collected
+returns c = search collected-rows
 
 pub row-bounds-spec : {M : Type 1} → statement M
 row-bounds-spec = tie.close (tie.spec edges-requires collect-requires returns)

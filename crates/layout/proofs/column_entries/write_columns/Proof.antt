@@ -3,7 +3,7 @@ use Prim.Native.Nat.{_+_, _-_, _≤_}
 use native.Mathlib.Omega.{arith}
 use lib.ListN.{length-set}
 use Rattle.representation.proofs.HeldLaws.{lines-ordered, lines-apart, line-small, width-fits}
-use Rattle.layout.proofs.column_entries.ColumnEntryLaws.{ColumnsWritten, no-column, column-next, columns-done}
+use Rattle.layout.proofs.column_entries.ColumnEntryLaws.{ColumnsWritten, columnsWritten-none, columnsWritten-next, columnsWritten-all}
 use borrow.Author.Needs.{needs}
 use Rattle.layout.proofs.column_entries.write_columns.Statement.{statement}
 use Rattle.layout.proofs.column_entries.write_columns.Tie as tie
@@ -15,7 +15,7 @@ abbrev μ-loop : tie.MeasureT-loop
 μ-loop glyphs offsets line a out₀ columns k₀ out k = columns .count - k
 
 loop-holds : tie.Need-loop-holds Inv-loop μ-loop
-loop-holds c = search (needs, no-column)
+loop-holds c = search (needs, columnsWritten-none)
 
 add-loop : tie.Need-add-loop Inv-loop μ-loop
 add-loop c = omega arith
@@ -75,13 +75,13 @@ loop-less : tie.Need-loop-less Inv-loop μ-loop
 loop-less c = omega arith
 
 loop-again : tie.Need-loop-again Inv-loop μ-loop
-loop-again c = (search needs, search column-next)
+loop-again c = (search needs, search columnsWritten-next)
 
 same-length : tie.Need-same-length Inv-loop μ-loop
 same-length c = search needs
 
 returns : tie.Need-returns Inv-loop μ-loop
-returns c = search (needs, columns-done)
+returns c = search (needs, columnsWritten-all)
 
 pub write-columns-spec : {M : Type 1} → statement M
 write-columns-spec =

@@ -2,20 +2,20 @@
 use Prim.Native.Nat.{_-_, _≤_}
 use mir.Facts.{fits-8-64}
 use Rattle.representation.proofs.HeldLaws.{top-first, some-height}
-use Rattle.layout.proofs.range_entries.RangesLaws.{Counted, none-counted, count-fits, count-more, all-counted}
+use Rattle.layout.proofs.range_entries.RangesLaws.{RangesCounted, rangesCounted-none, rangesCounted-fits, rangesCounted-next, rangesCounted-all}
 use native.Mathlib.Omega.{arith}
 use borrow.Author.Needs.{needs}
 use Rattle.layout.proofs.range_entries.count_ranges.Statement.{statement}
 use Rattle.layout.proofs.range_entries.count_ranges.Tie as tie
 
 abbrev Inv-loop : tie.InvT-loop
-Inv-loop rects n count₀ k₀ count k = (k ≤ n) × Counted rects n k count
+Inv-loop rects n count₀ k₀ count k = (k ≤ n) × RangesCounted rects n k count
 
 abbrev μ-loop : tie.MeasureT-loop
 μ-loop rects n count₀ k₀ count k = n - k
 
 loop-holds : tie.Need-loop-holds Inv-loop μ-loop
-loop-holds c = search (needs, none-counted)
+loop-holds c = search (needs, rangesCounted-none)
 
 mul-count : tie.Need-mul-count Inv-loop μ-loop
 mul-count c = omega arith
@@ -45,7 +45,7 @@ sub-count-2 : tie.Need-sub-count-2 Inv-loop μ-loop
 sub-count-2 c = search (needs, some-height)
 
 add-count-2 : tie.Need-add-count-2 Inv-loop μ-loop
-add-count-2 c = search (needs, count-fits)
+add-count-2 c = search (needs, rangesCounted-fits)
 
 add-k : tie.Need-add-k Inv-loop μ-loop
 add-k c = omega arith
@@ -54,10 +54,10 @@ loop-less : tie.Need-loop-less Inv-loop μ-loop
 loop-less c = omega arith
 
 loop-again : tie.Need-loop-again Inv-loop μ-loop
-loop-again c = search (needs, count-more)
+loop-again c = search (needs, rangesCounted-next)
 
 returns : tie.Need-returns Inv-loop μ-loop
-returns c = search (needs, all-counted)
+returns c = search (needs, rangesCounted-all)
 
 pub count-ranges-spec : {M : Type 1} → statement M
 count-ranges-spec =

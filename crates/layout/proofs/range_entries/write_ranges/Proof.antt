@@ -2,20 +2,20 @@
 use Prim.Native.Nat.{_-_, _≤_}
 use mir.Facts.{fits-8-64}
 use Rattle.representation.proofs.HeldLaws.{top-above, top-first, some-height, left-small, bottom-small, right-small}
-use Rattle.layout.proofs.range_entries.RangesLaws.{AllWritten, no-cell-ranges, rect-small, ranges-fit, entries-fit, place-fits, cell-ranges, all-ranges}
+use Rattle.layout.proofs.range_entries.RangesLaws.{AllRangesWritten, allRangesWritten-none, allRangesWritten-small, allRangesWritten-room, allRangesWritten-entries-fit, allRangesWritten-place-fits, allRangesWritten-next, allRangesWritten-all}
 use native.Mathlib.Omega.{arith}
 use borrow.Author.Needs.{needs}
 use Rattle.layout.proofs.range_entries.write_ranges.Statement.{statement}
 use Rattle.layout.proofs.range_entries.write_ranges.Tie as tie
 
 abbrev Inv-loop : tie.InvT-loop
-Inv-loop rects n offsets out₀ k₀ at₀ out k at = (k ≤ n) × AllWritten rects n offsets out₀ k at out
+Inv-loop rects n offsets out₀ k₀ at₀ out k at = (k ≤ n) × AllRangesWritten rects n offsets out₀ k at out
 
 abbrev μ-loop : tie.MeasureT-loop
 μ-loop rects n offsets out₀ k₀ at₀ out k at = n - k
 
 loop-holds : tie.Need-loop-holds Inv-loop μ-loop
-loop-holds c = search (needs, no-cell-ranges)
+loop-holds c = search (needs, allRangesWritten-none)
 
 mul-top : tie.Need-mul-top Inv-loop μ-loop
 mul-top c = omega arith
@@ -63,7 +63,7 @@ cast-right : tie.Need-cast-right Inv-loop μ-loop
 cast-right c = fits-8-64 (c .shared-slice-known6 .given _)
 
 write-ranges-of-requires : tie.Need-write-ranges-of-requires Inv-loop μ-loop
-write-ranges-of-requires c κs = ((search top-above, search bottom-small, search left-small, search right-small, search needs), (search ranges-fit, search rect-small))
+write-ranges-of-requires c κs = ((search top-above, search bottom-small, search left-small, search right-small, search needs), (search allRangesWritten-room, search allRangesWritten-small))
 
 sub-at : tie.Need-sub-at Inv-loop μ-loop
 sub-at c = search (needs, top-first)
@@ -72,10 +72,10 @@ sub-at-2 : tie.Need-sub-at-2 Inv-loop μ-loop
 sub-at-2 c = search (needs, some-height)
 
 mul-at : tie.Need-mul-at Inv-loop μ-loop
-mul-at c = search (needs, entries-fit)
+mul-at c = search (needs, allRangesWritten-entries-fit)
 
 add-at : tie.Need-add-at Inv-loop μ-loop
-add-at c = search (needs, place-fits)
+add-at c = search (needs, allRangesWritten-place-fits)
 
 add-k : tie.Need-add-k Inv-loop μ-loop
 add-k c = omega arith
@@ -84,13 +84,13 @@ loop-less : tie.Need-loop-less Inv-loop μ-loop
 loop-less c = omega arith
 
 loop-again : tie.Need-loop-again Inv-loop μ-loop
-loop-again c = search (needs, cell-ranges)
+loop-again c = search (needs, allRangesWritten-next)
 
 same-length : tie.Need-same-length Inv-loop μ-loop
 same-length c = search needs
 
 returns : tie.Need-returns Inv-loop μ-loop
-returns c = search (needs, all-ranges)
+returns c = search (needs, allRangesWritten-all)
 
 pub write-ranges-spec : {M : Type 1} → statement M
 write-ranges-spec =

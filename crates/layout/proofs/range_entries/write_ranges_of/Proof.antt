@@ -3,7 +3,7 @@ use Prim.Native.Nat.{_+_, _*_, _-_, _≤_, _<_}
 use mathlib.Core.Path.{_≡_}
 use native.Mathlib.Omega.{arith}
 use lib.ListN.{length-set}
-use Rattle.layout.proofs.range_entries.RangeLaws.{RangesWritten, no-range, range-next, ranges-done, start-fits}
+use Rattle.layout.proofs.range_entries.RangeLaws.{RangesWritten, rangesWritten-none, rangesWritten-next, rangesWritten-all, rangeEntries-start-fits}
 use borrow.Author.Needs.{needs}
 use Rattle.layout.proofs.range_entries.write_ranges_of.Statement.{statement}
 use Rattle.layout.proofs.range_entries.write_ranges_of.Tie as tie
@@ -18,7 +18,7 @@ add-y : tie.Need-add-y Inv-loop μ-loop
 add-y c = omega arith
 
 loop-holds : tie.Need-loop-holds Inv-loop μ-loop
-loop-holds c = search (needs, no-range)
+loop-holds c = search (needs, rangesWritten-none)
 
 byte-at-requires : tie.Need-byte-at-requires Inv-loop μ-loop
 byte-at-requires c κs = search needs
@@ -27,7 +27,7 @@ cast-out : tie.Need-cast-out Inv-loop μ-loop
 cast-out c = search needs
 
 add-out : tie.Need-add-out Inv-loop μ-loop
-add-out c = search (needs, start-fits)
+add-out c = search (needs, rangeEntries-start-fits)
 
 mul-out : tie.Need-mul-out Inv-loop μ-loop
 mul-out c = omega arith
@@ -60,13 +60,13 @@ loop-less : tie.Need-loop-less Inv-loop μ-loop
 loop-less c = omega arith
 
 loop-again : tie.Need-loop-again Inv-loop μ-loop
-loop-again c = search (needs, range-next)
+loop-again c = search (needs, rangesWritten-next)
 
 same-length : tie.Need-same-length Inv-loop μ-loop
 same-length c = search needs
 
 returns : tie.Need-returns Inv-loop μ-loop
-returns c = search ranges-done
+returns c = search rangesWritten-all
 
 pub write-ranges-of-spec : {M : Type 1} → statement M
 write-ranges-of-spec =

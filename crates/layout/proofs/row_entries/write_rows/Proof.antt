@@ -1,6 +1,6 @@
 -- `layout::row_entries::write_rows` meets its contract. The invariant: the entries of the first k rows are written.
 use Prim.Native.Nat.{_+_, _-_, _≤_}
-use Rattle.layout.proofs.row_entries.RowEntryLaws.{RowsWritten, no-row, row-next, rows-done}
+use Rattle.layout.proofs.row_entries.RowEntryLaws.{RowsWritten, rowsWritten-none, rowsWritten-next, rowsWritten-all}
 use native.Mathlib.Omega.{arith}
 use lib.ListN.{length-set}
 use borrow.Author.Needs.{needs}
@@ -14,7 +14,7 @@ abbrev μ-loop : tie.MeasureT-loop
 μ-loop p out₀ rows k₀ out k = rows .count - k
 
 loop-holds : tie.Need-loop-holds Inv-loop μ-loop
-loop-holds c = search (needs, no-row)
+loop-holds c = search (needs, rowsWritten-none)
 
 add-loop : tie.Need-add-loop Inv-loop μ-loop
 add-loop c = omega arith
@@ -80,13 +80,13 @@ loop-less : tie.Need-loop-less Inv-loop μ-loop
 loop-less c = omega arith
 
 loop-again : tie.Need-loop-again Inv-loop μ-loop
-loop-again c = (search needs, search row-next)
+loop-again c = (search needs, search rowsWritten-next)
 
 same-length : tie.Need-same-length Inv-loop μ-loop
 same-length c = search needs
 
 returns : tie.Need-returns Inv-loop μ-loop
-returns c = search (needs, rows-done)
+returns c = search (needs, rowsWritten-all)
 
 pub write-rows-spec : {M : Type 1} → statement M
 write-rows-spec =

@@ -1,12 +1,12 @@
 -- `layout::sections::find_parts` meets its contract: by the number of separators and the last of them.
-use Rattle.layout.proofs.sections.PartLaws.{no-head, no-part, head-found, one-part, foot-found, no-foot}
+use Rattle.layout.proofs.sections.PartLaws.{headEnd-none, footStart-none, headEnd-found, footStart-one, footStart-found, footStart-not-last}
 use native.Mathlib.Omega.{arith}
 use borrow.Author.Needs.{needs}
 use Rattle.layout.proofs.sections.find_parts.Statement.{statement}
 use Rattle.layout.proofs.sections.find_parts.Tie as tie
 
 returns : tie.Need-returns
-returns c = search (no-head, no-part)
+returns c = search (headEnd-none, footStart-none)
 
 array-read-head : tie.Need-array-read-head
 array-read-head c = search needs
@@ -15,7 +15,7 @@ cast-head : tie.Need-cast-head
 cast-head c = search needs
 
 returns-2 : tie.Need-returns-2
-returns-2 c = search (head-found, one-part)
+returns-2 c = search (headEnd-found, footStart-one)
 
 sub-if3 : tie.Need-sub-if3
 sub-if3 c = omega arith
@@ -39,10 +39,10 @@ cast-t19 : tie.Need-cast-t19
 cast-t19 c = search needs
 
 returns-3 : tie.Need-returns-3
-returns-3 c = search (head-found, foot-found)
+returns-3 c = search (headEnd-found, footStart-found)
 
 returns-4 : tie.Need-returns-4
-returns-4 c = search (head-found, no-foot)
+returns-4 c = search (headEnd-found, footStart-not-last)
 
 pub find-parts-spec : {M : Type 1} → statement M
 find-parts-spec =

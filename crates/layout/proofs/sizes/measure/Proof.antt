@@ -1,6 +1,6 @@
 -- `layout::sizes::measure` meets its contract: what its three callees give, and the tests of 12.
 use borrow.Author.Needs.{needs}
-use Rattle.layout.proofs.sizes.SizedLaws.{few-ranges}
+use Rattle.layout.proofs.sizes.SizedLaws.{innerCount-fits}
 use Rattle.layout.proofs.sizes.measure.Statement.{statement}
 use Rattle.layout.proofs.sizes.measure.Tie as tie
 
@@ -29,7 +29,7 @@ mul-short-3 : tie.Need-mul-short-3
 mul-short-3 c = search needs
 
 mul-short-4 : tie.Need-mul-short-4
-mul-short-4 c = search few-ranges
+mul-short-4 c = search innerCount-fits
 
 returns : tie.Need-returns
 returns c = search needs

@@ -1,8 +1,11 @@
 -- `layout_listing::lines::lines_layout` meets its contract: what the layout call tells.
-use Rattle.layout_listing.proofs.lines.ListedLaws.{layout-told}
+use Rattle.layout_listing.proofs.lines.ListedLaws.{layoutTold-call}
 use borrow.Author.Needs.{needs}
 use Rattle.layout_listing.proofs.lines.lines_layout.Statement.{statement}
 use Rattle.layout_listing.proofs.lines.lines_layout.Tie as tie
+
+abbrev start : tie.After-layout → tie.Start
+start c = search needs
 
 sub-layout : tie.Need-sub-layout
 sub-layout c = search needs
@@ -45,9 +48,11 @@ same-length-3 c = search needs
 
 returns : tie.Need-returns
 returns c =
-    let start = c .before .before .before .before .before .before .before .before .before .before .before .before .before .before .before .before .before .before .before .before .before .before .before .before .before .before .before .before .before in
-    let call = c .before .before .before .before .before .before .before .before .before .before .before .before .layout in
-    layout-told (start .args .lengths .now) (start .args .text .now) (start .args .cols .now) (start .args .rows .now) (start .args .cells .now) (start .pre .0 .0) (start .pre .0 .1) (start .pre .1) (call .result) (call .last .1 .1 .1 .1 .1 .1 .1 .1 .1 .1 .0) (call .last .1 .1 .1 .1 .1 .1 .1 .1 .1 .1 .1 .0) (call .last .1 .1 .1 .1 .1 .1 .1 .1 .1 .1 .1 .1 .0) (call .last .1 .1 .1 .1 .1 .1 .1 .1 .1 .1 .1 .1 .1 .0) (call .ensures .0) (call .ensures .1)
+    let laid : tie.After-layout = search needs in
+    let a = start laid .args in
+    let asked = start laid .pre in
+    layoutTold-call (a .lengths .now) (a .text .now) (a .cols .now) (a .rows .now) (a .cells .now) (asked .0 .0) (asked .0 .1) (asked .1) (laid .layout .result) _ _ _ _
+    (laid .layout .ensures .0) (laid .layout .ensures .1)
 
 pub lines-layout-spec : {M : Type 1} → statement M
 lines-layout-spec =

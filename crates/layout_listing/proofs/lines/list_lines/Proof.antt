@@ -1,5 +1,5 @@
 -- `layout_listing::lines::list_lines` meets its contract: each return by what the answer tells.
-use Rattle.layout_listing.proofs.lines.ListedLaws.{few-told, table-listed, refused-listed}
+use Rattle.layout_listing.proofs.lines.ListedLaws.{layoutTold-few, layoutTold-table, layoutTold-refused}
 use borrow.Author.Needs.{needs}
 use Rattle.layout_listing.proofs.lines.list_lines.Statement.{statement}
 use Rattle.layout_listing.proofs.lines.list_lines.Tie as tie
@@ -36,21 +36,22 @@ slice-aggregate-table-3 c = search needs
 
 table-requires : tie.Need-table-requires
 table-requires c κs =
-    let start = c .before .before .before .before .before .before .before .before .before .before .before .before .before .before .before .before .before in
-    let call = c .before .before .before .before .before .before .before .before .before .before .lines-layout in
-    few-told (start .args .lengths .now) (start .args .text .now) (call .last .1 .1 .0) (call .last .1 .1 .1 .0) (call .last .1 .1 .1 .1 .0) (call .result) _ _ _ _ _ (c .before .before .before .before .before .width .given .1) (call .ensures) _ (start .pre .2)
+    let start : tie.Start = search needs in
+    let laid : tie.After-lines-layout = search needs in
+    let arm : tie.After-width = search needs in
+    layoutTold-few _ _ _ _ _ _ _ _ _ _ _ (arm .width .given .1) (laid .lines-layout .ensures) _ (start .pre .2)
 
 same-length : tie.Need-same-length
 same-length c = search needs
 
 returns : tie.Need-returns
-returns c = search (needs, refused-listed)
+returns c = search (needs, layoutTold-refused)
 
 same-length-2 : tie.Need-same-length-2
 same-length-2 c = search needs
 
 returns-2 : tie.Need-returns-2
-returns-2 c = search (needs, table-listed)
+returns-2 c = search (needs, layoutTold-table)
 
 pub list-lines-spec : {M : Type 1} → statement M
 list-lines-spec =

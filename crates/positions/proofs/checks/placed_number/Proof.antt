@@ -1,5 +1,5 @@
 -- `positions::checks::placed_number` meets its contract: each return by its law.
-use Rattle.positions.proofs.checks.CheckLaws.{contradicted, too-large, none-large}
+use Rattle.positions.proofs.checks.CheckLaws.{placedNumber-contradicted, placedNumber-too-large, placedNumber-passed}
 use borrow.Author.Needs.{needs}
 use Rattle.positions.proofs.checks.placed_number.Statement.{statement}
 use Rattle.positions.proofs.checks.placed_number.Tie as tie
@@ -11,7 +11,7 @@ space-short-requires : tie.Need-space-short-requires
 space-short-requires c κs = search needs
 
 returns : tie.Need-returns
-returns c = search contradicted
+returns c = search placedNumber-contradicted
 
 any-over-requires : tie.Need-any-over-requires
 any-over-requires c κs = search needs
@@ -20,10 +20,10 @@ any-over-requires-2 : tie.Need-any-over-requires-2
 any-over-requires-2 c κs = search needs
 
 returns-2 : tie.Need-returns-2
-returns-2 c = search too-large
+returns-2 c = search placedNumber-too-large
 
 returns-3 : tie.Need-returns-3
-returns-3 c = search none-large
+returns-3 c = search placedNumber-passed
 
 pub placed-number-spec : {M : Type 1} → statement M
 placed-number-spec =

@@ -1,6 +1,6 @@
 -- `positions::rows::row_position` meets its contract: from its calls.
 use native.Mathlib.Omega.{arith}
-use Rattle.positions.proofs.rows.RowLaws.{lines-told, none-told}
+use Rattle.positions.proofs.rows.RowLaws.{linesBetween-lines, linesBetween-none}
 use borrow.Author.Needs.{needs}
 use Rattle.positions.proofs.rows.row_position.Statement.{statement}
 use Rattle.positions.proofs.rows.row_position.Tie as tie
@@ -18,13 +18,13 @@ whole-lines-requires : tie.Need-whole-lines-requires
 whole-lines-requires c κs = (search needs, (search needs, omega arith, omega arith))
 
 returns : tie.Need-returns
-returns c = search (needs, lines-told)
+returns c = search (needs, linesBetween-lines)
 
 no-lines-requires : tie.Need-no-lines-requires
 no-lines-requires c κs = search needs
 
 returns-2 : tie.Need-returns-2
-returns-2 c = search (needs, none-told)
+returns-2 c = search (needs, linesBetween-none)
 
 pub row-position-spec : {M : Type 1} → statement M
 row-position-spec =

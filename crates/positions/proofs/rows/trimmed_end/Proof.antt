@@ -1,6 +1,6 @@
 -- `positions::rows::trimmed_end` meets its contract: the part is the line.
 use mir.Facts.{fits-16-64}
-use Rattle.positions.proofs.rows.RowLaws.{line-inside, line-fits, trimmed-short, trimmed-fits, trimmed-told}
+use Rattle.positions.proofs.rows.RowLaws.{startedLines-inside, startedLines-fits, trimmed-short, trimmed-told}
 use borrow.Author.Needs.{needs}
 use Rattle.positions.proofs.rows.trimmed_end.Statement.{statement}
 use Rattle.positions.proofs.rows.trimmed_end.Tie as tie
@@ -24,7 +24,7 @@ cast-to : tie.Need-cast-to
 cast-to c = fits-16-64 (c .shared-slice-known5 .given _)
 
 add-to : tie.Need-add-to
-add-to c = search (needs, line-fits)
+add-to c = search (needs, startedLines-fits)
 
 sub-trim-end : tie.Need-sub-trim-end
 sub-trim-end c = search needs
@@ -33,13 +33,10 @@ part-trim-end-start : tie.Need-part-trim-end-start
 part-trim-end-start c = search needs
 
 part-trim-end-end : tie.Need-part-trim-end-end
-part-trim-end-end c = search (needs, line-inside)
+part-trim-end-end c = search (needs, startedLines-inside)
 
 trim-end-requires : tie.Need-trim-end-requires
 trim-end-requires c κs = search needs
-
-cast-result : tie.Need-cast-result
-cast-result c = search (needs, trimmed-fits)
 
 returns : tie.Need-returns
 returns c = (search (needs, trimmed-told), search (needs, trimmed-short))
@@ -59,5 +56,4 @@ trimmed-end-spec =
     part-trim-end-start
     part-trim-end-end
     trim-end-requires
-    cast-result
     returns)

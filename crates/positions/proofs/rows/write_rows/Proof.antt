@@ -3,18 +3,18 @@ use Prim.Native.Nat.{_+_, _-_, _≤_}
 use native.Mathlib.Omega.{arith}
 use borrow.Author.Needs.{needs}
 use Rattle.representation.proofs.HeldLaws.{rises-here}
-use Rattle.positions.proofs.rows.RowLaws.{RowsWritten, no-row, row-inside, row-room, row-next, rows-done}
+use Rattle.positions.proofs.rows.RowLaws.{RowSpansWritten, rowSpansWritten-none, linesHeld-inside, rowSpansWritten-room, rowSpansWritten-next, rowSpansWritten-all}
 use Rattle.positions.proofs.rows.write_rows.Statement.{statement}
 use Rattle.positions.proofs.rows.write_rows.Tie as tie
 
 abbrev Inv-loop : tie.InvT-loop
-Inv-loop lengths text starts numbers table-bytes out₀ rows k₀ out k = (k + 1 ≤ rows .count) × RowsWritten lengths text numbers table-bytes rows out₀ k out
+Inv-loop lengths text starts numbers table-bytes out₀ rows k₀ out k = (k + 1 ≤ rows .count) × RowSpansWritten lengths text numbers table-bytes rows out₀ k out
 
 abbrev μ-loop : tie.MeasureT-loop
 μ-loop lengths text starts numbers table-bytes out₀ rows k₀ out k = rows .count - k
 
 loop-holds : tie.Need-loop-holds Inv-loop μ-loop
-loop-holds c = search (needs, no-row)
+loop-holds c = search (needs, rowSpansWritten-none)
 
 add-loop : tie.Need-add-loop Inv-loop μ-loop
 add-loop c = omega arith
@@ -35,13 +35,13 @@ cast-row-position-2 : tie.Need-cast-row-position-2 Inv-loop μ-loop
 cast-row-position-2 c = search needs
 
 row-position-requires : tie.Need-row-position-requires Inv-loop μ-loop
-row-position-requires c κs = (search needs, (search needs, search (needs, rises-here), search (needs, row-inside)))
+row-position-requires c κs = (search needs, (search needs, search (needs, rises-here), search (needs, linesHeld-inside)))
 
 mul-write-sourcepos : tie.Need-mul-write-sourcepos Inv-loop μ-loop
 mul-write-sourcepos c = omega arith
 
 write-sourcepos-requires : tie.Need-write-sourcepos-requires Inv-loop μ-loop
-write-sourcepos-requires c κs = search row-room
+write-sourcepos-requires c κs = search rowSpansWritten-room
 
 add-k : tie.Need-add-k Inv-loop μ-loop
 add-k c = omega arith
@@ -50,13 +50,13 @@ loop-less : tie.Need-loop-less Inv-loop μ-loop
 loop-less c = omega arith
 
 loop-again : tie.Need-loop-again Inv-loop μ-loop
-loop-again c = (search needs, search row-next)
+loop-again c = (search needs, search rowSpansWritten-next)
 
 same-length : tie.Need-same-length Inv-loop μ-loop
 same-length c = search needs
 
 returns : tie.Need-returns Inv-loop μ-loop
-returns c = search (needs, rows-done)
+returns c = search (needs, rowSpansWritten-all)
 
 pub write-rows-spec : {M : Type 1} → statement M
 write-rows-spec =

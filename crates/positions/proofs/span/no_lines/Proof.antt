@@ -1,7 +1,7 @@
 -- `positions::span::no_lines` meets its contract: by computing.
 use mathlib.Core.Path.{refl}
 use Rattle.sourcepos.specs.Positions.{noLines}
-use Rattle.positions.proofs.span.SpanLaws.{column-fits}
+use Rattle.positions.proofs.span.SpanLaws.{table-byte-next-fits}
 use borrow.Author.Needs.{needs}
 use Rattle.positions.proofs.span.no_lines.Statement.{statement}
 use Rattle.positions.proofs.span.no_lines.Tie as tie
@@ -19,7 +19,7 @@ shared-slice-read-byte : tie.Need-shared-slice-read-byte
 shared-slice-read-byte c = search needs
 
 add-t8 : tie.Need-add-t8
-add-t8 c = search (needs, column-fits)
+add-t8 c = search (needs, table-byte-next-fits)
 
 returns : tie.Need-returns
 unfolding noLines

@@ -2,7 +2,7 @@
 use native.Mathlib.Omega.{arith}
 use lib.ListN.{length-set}
 use Rattle.positions.specs.Spans.{sourceposOf}
-use Rattle.positions.proofs.span.SpanLaws.{four-stored}
+use Rattle.positions.proofs.span.SpanLaws.{fourNumbers-stored}
 use borrow.Author.Needs.{needs}
 use Rattle.positions.proofs.span.write_sourcepos.Statement.{statement}
 use Rattle.positions.proofs.span.write_sourcepos.Tie as tie
@@ -44,7 +44,7 @@ same-length : tie.Need-same-length
 same-length c = search needs
 
 returns : tie.Need-returns
-returns c = four-stored (sourceposOf (c .args .position)) _ _ (c .pre)
+returns c = fourNumbers-stored (sourceposOf (c .args .position)) _ _ (c .pre)
 
 pub write-sourcepos-spec : {M : Type 1} → statement M
 write-sourcepos-spec =

@@ -17,16 +17,16 @@ abbrev μ-loop : tie.MeasureT-loop
 
 -- the function's start, from where a cell's line is to be written and from where it is
 abbrev begun : tie.After-write-cell-arg Inv-loop μ-loop → tie.Start Inv-loop μ-loop
-begun c = c .before .before .before .before .before .before .before .before .before .before .before .before .before
+begun c = search needs
 
 abbrev turn : tie.After-write-cell-arg Inv-loop μ-loop → tie.At-loop Inv-loop μ-loop
-turn c = c .before .before .before .before
+turn c = search needs
 
 abbrev called : tie.After-edge Inv-loop μ-loop → tie.After-write-cell-arg Inv-loop μ-loop
-called c = c .before .before .before .before
+called c = search needs
 
 abbrev ended : tie.After-loop Inv-loop μ-loop → tie.Start Inv-loop μ-loop
-ended c = c .before .before .before .before .before .before .before .before .before .before
+ended c = search needs
 
 loop-holds : tie.Need-loop-holds Inv-loop μ-loop
 loop-holds c = search (needs, walk-starts)

@@ -18,10 +18,10 @@ abbrev μ-loop : tie.MeasureT-loop
 
 -- the function's start, from where a line is to be written
 abbrev begun : tie.After-none Inv-loop μ-loop → tie.Start Inv-loop μ-loop
-begun c = c .before .before .before .before .before .before .before .before .before .before
+begun c = search needs
 
 abbrev turn : tie.After-none2 Inv-loop μ-loop → tie.At-loop Inv-loop μ-loop
-turn c = c .before .before .before .before
+turn c = search needs
 
 loop-holds : tie.Need-loop-holds Inv-loop μ-loop
 loop-holds c = search (needs, height-low, counted-none)

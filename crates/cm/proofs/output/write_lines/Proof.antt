@@ -18,7 +18,7 @@ abbrev μ-loop : tie.MeasureT-loop
 
 -- the function's start, from where a line is to be written
 abbrev begun : tie.After-write-line-arg Inv-loop μ-loop → tie.Start Inv-loop μ-loop
-begun c = c .before .before .before .before .before .before .before .before .before .before .before
+begun c = search needs
 
 loop-holds : tie.Need-loop-holds Inv-loop μ-loop
 loop-holds c = search (needs, height-low, written-none)

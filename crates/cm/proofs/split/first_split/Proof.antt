@@ -15,7 +15,7 @@ abbrev μ-loop : tie.MeasureT-loop
 
 -- the function's start, from a turn's
 abbrev begun : tie.In-loop Inv-loop μ-loop → tie.Start Inv-loop μ-loop
-begun c = c .before .before .before .before .before .before .before .before .before
+begun c = search needs
 
 loop-holds : tie.Need-loop-holds Inv-loop μ-loop
 loop-holds c = search (needs, unsplit-none)

@@ -16,7 +16,7 @@ abbrev μ-loop : tie.MeasureT-loop
 
 -- the function's start, from a turn's
 abbrev begun : tie.In-loop Inv-loop μ-loop → tie.Start Inv-loop μ-loop
-begun c = c .before .before .before .before .before .before .before
+begun c = search needs
 
 abbrev turn : tie.After-cell-line Inv-loop μ-loop → tie.At-loop Inv-loop μ-loop
 turn c = c .before .before

@@ -39,8 +39,8 @@ draw-frames-requires c κs = let x = c .before .before in let G = begun x .pre i
 add-finish : tie.Need-add-finish
 add-finish c = search (needs, height-fits (begun (passed c) .pre .0) (passed c .if1 .left))
 
-add-finish-2 : tie.Need-add-finish-2
-add-finish-2 c = search (needs, width-fits (begun (passed c) .pre .0) (passed c .if1 .left))
+add-t29 : tie.Need-add-t29
+add-t29 c = search (needs, width-fits (begun (passed c) .pre .0) (passed c .if1 .left))
 
 finish-requires : tie.Need-finish-requires
 finish-requires c κs =
@@ -88,7 +88,7 @@ draw-sized-spec =
     returns
     draw-frames-requires
     add-finish
-    add-finish-2
+    add-t29
     finish-requires
     same-length
     same-length-2

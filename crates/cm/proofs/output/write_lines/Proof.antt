@@ -10,8 +10,8 @@ use Rattle.cm.proofs.output.write_lines.Tie as tie
 
 abbrev Inv-loop : tie.InvT-loop
 Inv-loop origin height width n rects canvas text starts ends firsts heights out₀ at₀ y₀ out at y =
-    (y ≤ height) × (height ≤ 128) × (at ≤ 131072 * y) × (length out ≡ length out₀)
-    × Writing n width (board rects text starts ends firsts heights) canvas origin height y out₀ out at
+    (y ≤ height) × (height ≤ 128) × (at .0 ≤ 131072 * y) × (length out ≡ length out₀)
+    × Writing n (width .0) (board rects text starts ends firsts heights) canvas (origin .0) height y out₀ out (at .0)
 
 abbrev μ-loop : tie.MeasureT-loop
 μ-loop origin height width n rects canvas text starts ends firsts heights out₀ at₀ y₀ out at y = height - y

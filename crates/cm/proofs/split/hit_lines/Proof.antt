@@ -9,7 +9,7 @@ use Rattle.cm.proofs.split.hit_lines.Tie as tie
 
 abbrev Inv-loop : tie.InvT-loop
 Inv-loop column from count text starts ends firsts heights k hits₀ i₀ hits i =
-    (i ≤ count) × (count < 128) × (column .0 ≤ 1024) × (length (hits .lines) ≡ 128) × Counting text starts ends firsts heights (column .0) from k i (hits .lines)
+    (i ≤ count) × (count < 128) × (column .0 ≤ 1024) × (length (hits .lines) ≡ 128) × Counting text starts ends firsts heights (column .0) (from .0) k i (hits .lines)
 
 abbrev μ-loop : tie.MeasureT-loop
 μ-loop column from count text starts ends firsts heights k hits₀ i₀ hits i = count - i

@@ -16,7 +16,7 @@ short c = c .before .before
 abbrev apart : tie.Then2 → tie.After-edge4
 apart c = search needs
 
-abbrev met : tie.Else2 → tie.After-edge4
+abbrev met : tie.After-struct-known → tie.After-edge4
 met c = search needs
 
 abbrev counted : tie.After-split-column2 → tie.After-edge4
@@ -83,8 +83,8 @@ add-t18 c = search needs
 add-t19 : tie.Need-add-t19
 add-t19 c = search needs
 
-add-hit-lines : tie.Need-add-hit-lines
-add-hit-lines c = search needs
+add-t25 : tie.Need-add-t25
+add-t25 c = search needs
 
 hit-lines-requires : tie.Need-hit-lines-requires
 hit-lines-requires c κs = (
@@ -124,7 +124,7 @@ splits-spec =
     returns-2
     add-t18
     add-t19
-    add-hit-lines
+    add-t25
     hit-lines-requires
     split-column-requires-2
     returns-3)

@@ -7,16 +7,16 @@ use Rattle.html_page.proofs.cells.render_grid_table_cell.Tie as tie
 
 -- the calls before each, and the function's start
 abbrev copy-done : tie.After-close-cell → tie.After-copy
-copy-done c = c .before .before .before .before
+copy-done c = search needs
 
 abbrev tags-done : tie.After-copy → tie.After-render-attributes
-tags-done c = c .before .before .before .before .before
+tags-done c = search needs
 
 abbrev open-done : tie.After-render-attributes → tie.After-open-cell
-open-done c = c .before .before .before .before .before
+open-done c = search needs
 
 abbrev begun : tie.After-open-cell → tie.Start
-begun c = c .before .before .before .before .before .before .before .before .before .before
+begun c = search needs
 
 mul-column : tie.Need-mul-column
 mul-column c = search needs

@@ -33,7 +33,7 @@ returns-4 c = search not-run
 
 -- where the cells were found to be inside
 abbrev inside : tie.Else4 → tie.Else2
-inside c = c .before .before .before .before .before
+inside c = search needs
 
 none-crosses-requires : tie.Need-none-crosses-requires
 none-crosses-requires c κs =

@@ -19,7 +19,7 @@ ghost use Rattle.grid.specs.LayoutCall.{slotSpace, rectSpace};
 ghost use Rattle.drawing.specs.Plain.{Canvas, canvasHeight};
 ghost use Rattle.drawing.specs.RedrawCall.{drawingLent};
 ghost use Rattle.canvas.specs.Picture.{Pictured};
-ghost use Rattle.cm.specs.Board.{board, Ready};
+ghost use Rattle.cm.specs.Board.{board, CanvasReady};
 ghost use Rattle.cm.specs.Sketch.{rulesAt, plan, Planned, Sketched, Texted};
 ghost use Rattle.cm.specs.Late.{answerOf, lateSizes, lateArrays};
 
@@ -143,12 +143,12 @@ fn finish(
     out_text: &mut [u8],
 ) -> RedrawAnswer
     requires { let b = board (now rects) (now text) (now starts) (now ends) (now firsts) (now heights) in
-        ⌜ ((v : Canvas) × Ready v n (width .0) b (now canvas) × (height ≡ canvasHeight v) × (origin .0 ≤ 255)) ⌝ }
+        ⌜ ((v : Canvas) × CanvasReady v n (width .0) b (now canvas) × (height ≡ canvasHeight v) × (origin .0 ≤ 255)) ⌝ }
     ensures { λ r.
         let b = board (now (rects .entry)) (now (text .entry)) (now (starts .entry)) (now (ends .entry)) (now (firsts .entry)) (now (heights .entry)) in
         let before = drawingLent (now («out_lengths» .entry)) (now («out_columns» .entry)) (now («out_text» .entry)) in
         let after = drawingLent (now («out_lengths» .exit)) (now («out_columns» .exit)) (now («out_text» .exit)) in
-        ⌜ ((v : Canvas) → Ready v n (width .0) b (now (canvas .entry)) → height ≡ canvasHeight v
+        ⌜ ((v : Canvas) → CanvasReady v n (width .0) b (now (canvas .entry)) → height ≡ canvasHeight v
         → (answerOf r ≡ lateSizes v (origin .0) before) × (after ≡ lateArrays v (origin .0) before)) ⌝ }
 {
     let sizes = count_lines(

@@ -19,7 +19,7 @@ ghost use Rattle.text.specs.Utf8.{charIndices, wellFormed};
 ghost use Rattle.text.specs.Lines.{noText};
 ghost use Rattle.drawing.specs.Plain.{Box, Canvas, canvasHeight, innerLine, drawnLine};
 ghost use Rattle.writer.specs.Writing.{Wrote};
-ghost use Rattle.cm.specs.Board.{board, noBox, linesAt, Lettered, Boxed, Inner, Ready};
+ghost use Rattle.cm.specs.Board.{board, noBox, linesAt, Lettered, Boxed, Inner, CanvasReady};
 
 // Line i of cell k, or none where the cell has fewer.
 pub fn cell_line<'a>(
@@ -113,10 +113,10 @@ pub fn write_line(
     at: ByteAt,
 ) -> ByteAt
     requires { let b = board (now rects) (now text) (now starts) (now ends) (now firsts) (now heights) in
-        ⌜ ((v : Canvas) × Ready v n (width .0) b (now canvas) × (y < canvasHeight v) × (origin .0 ≤ 255) × (at .0 ≤ 1073741824)) ⌝ }
+        ⌜ ((v : Canvas) × CanvasReady v n (width .0) b (now canvas) × (y < canvasHeight v) × (origin .0 ≤ 255) × (at .0 ≤ 1073741824)) ⌝ }
     ensures { λ r.
         let b = board (now (rects .entry)) (now (text .entry)) (now (starts .entry)) (now (ends .entry)) (now (firsts .entry)) (now (heights .entry)) in
-        ⌜ ((v : Canvas) → Ready v n (width .0) b (now (canvas .entry)) → y < canvasHeight v
+        ⌜ ((v : Canvas) → CanvasReady v n (width .0) b (now (canvas .entry)) → y < canvasHeight v
         → Wrote (now (out .entry)) (at .0) (drawnLine (origin .0) v y .text) (now (out .exit)) (r .0)) ⌝ }
     ensures { λ r. ⌜ r .0 ≤ at .0 + 131072 ⌝ }
 {

@@ -6,7 +6,7 @@ ghost use Prim.Native.Nat.{_≤_};
 ghost use mathlib.Core.Path.{_≡_};
 ghost use Rattle.drawing.specs.Plain.{Canvas, canvasHeight, canvasLines};
 ghost use Rattle.writer.specs.Writing.{putDown};
-ghost use Rattle.cm.specs.Board.{board, Ready};
+ghost use Rattle.cm.specs.Board.{board, CanvasReady};
 ghost use Rattle.cm.specs.Counted.{Counted, drawnText};
 
 // The length of each line, and of all together.
@@ -29,10 +29,10 @@ pub fn count_lines(
     heights: &[u16],
 ) -> LineSizes
     requires { let b = board (now rects) (now text) (now starts) (now ends) (now firsts) (now heights) in
-        ⌜ ((v : Canvas) × Ready v n (width .0) b (now canvas) × (height ≡ canvasHeight v) × (origin .0 ≤ 255)) ⌝ }
+        ⌜ ((v : Canvas) × CanvasReady v n (width .0) b (now canvas) × (height ≡ canvasHeight v) × (origin .0 ≤ 255)) ⌝ }
     ensures { λ r.
         let b = board (now (rects .entry)) (now (text .entry)) (now (starts .entry)) (now (ends .entry)) (now (firsts .entry)) (now (heights .entry)) in
-        ⌜ ((v : Canvas) → Ready v n (width .0) b (now (canvas .entry)) → height ≡ canvasHeight v → Counted (canvasLines (origin .0) v) r) ⌝ }
+        ⌜ ((v : Canvas) → CanvasReady v n (width .0) b (now (canvas .entry)) → height ≡ canvasHeight v → Counted (canvasLines (origin .0) v) r) ⌝ }
 {
     let mut none = [0u8; 0];
     let mut lengths = [0; 128];
@@ -77,10 +77,10 @@ pub fn write_lines(
     out: &mut [u8],
 )
     requires { let b = board (now rects) (now text) (now starts) (now ends) (now firsts) (now heights) in
-        ⌜ ((v : Canvas) × Ready v n (width .0) b (now canvas) × (height ≡ canvasHeight v) × (origin .0 ≤ 255)) ⌝ }
+        ⌜ ((v : Canvas) × CanvasReady v n (width .0) b (now canvas) × (height ≡ canvasHeight v) × (origin .0 ≤ 255)) ⌝ }
     ensures { λ _.
         let b = board (now (rects .entry)) (now (text .entry)) (now (starts .entry)) (now (ends .entry)) (now (firsts .entry)) (now (heights .entry)) in
-        ⌜ ((v : Canvas) → Ready v n (width .0) b (now (canvas .entry)) → height ≡ canvasHeight v
+        ⌜ ((v : Canvas) → CanvasReady v n (width .0) b (now (canvas .entry)) → height ≡ canvasHeight v
         → now (out .exit) ≡ putDown (now (out .entry)) 0 (drawnText (canvasLines (origin .0) v))) ⌝ }
 {
     let mut at = ByteAt(0);

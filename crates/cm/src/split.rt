@@ -25,7 +25,7 @@ ghost use Rattle.reading.specs.Checks.{placeOf};
 ghost use Rattle.drawing.specs.Plain.{Box, Canvas, canvasLines};
 ghost use Rattle.drawing.specs.Redraw.{splits as splitsIn, splitCell};
 ghost use Rattle.representation.specs.Arrays.{rectIn};
-ghost use Rattle.cm.specs.Board.{board, linesAt, Lettered, Ready};
+ghost use Rattle.cm.specs.Board.{board, linesAt, Lettered, CanvasReady};
 ghost use Rattle.cm.specs.Hits.{Hit, Hittable, HitLines, splitColumn};
 
 // For each column, how many lines from the first on show `|` or `+` there.
@@ -139,10 +139,11 @@ fn splits(
     k: usize,
 ) -> bool
     requires { let b = board (now rects) (now text) (now starts) (now ends) (now firsts) (now heights) in
-        ⌜ ((v : Canvas) × Ready v n (width .0) b (now canvas) × (k < n) × (origin .0 ≤ 255)) ⌝ }
+        ⌜ ((v : Canvas) × CanvasReady v n (width .0) b (now canvas) × (k < n) × (origin .0 ≤ 255)) ⌝ }
     ensures { λ r.
         let b = board (now (rects .entry)) (now (text .entry)) (now (starts .entry)) (now (ends .entry)) (now (firsts .entry)) (now (heights .entry)) in
-        ⌜ ((v : Canvas) → Ready v n (width .0) b (now (canvas .entry)) → r ≡ splitsIn (gridOf (canvasLines (origin .0) v)) (rectIn (now (rects .entry)) k)) ⌝ }
+        ⌜ ((v : Canvas) → CanvasReady v n (width .0) b (now (canvas .entry))
+        → r ≡ splitsIn (gridOf (canvasLines (origin .0) v)) (rectIn (now (rects .entry)) k)) ⌝ }
 {
     let top = edge(rects, 4 * k);
     let left = edge(rects, 4 * k + 1);
@@ -191,10 +192,10 @@ pub fn first_split(
     heights: &[u16],
 ) -> Place
     requires { let b = board (now rects) (now text) (now starts) (now ends) (now firsts) (now heights) in
-        ⌜ ((v : Canvas) × Ready v n (width .0) b (now canvas) × (origin .0 ≤ 255)) ⌝ }
+        ⌜ ((v : Canvas) × CanvasReady v n (width .0) b (now canvas) × (origin .0 ≤ 255)) ⌝ }
     ensures { λ r.
         let b = board (now (rects .entry)) (now (text .entry)) (now (starts .entry)) (now (ends .entry)) (now (firsts .entry)) (now (heights .entry)) in
-        ⌜ ((v : Canvas) → Ready v n (width .0) b (now (canvas .entry)) → placeOf r ≡ splitCell v (gridOf (canvasLines (origin .0) v))) ⌝ }
+        ⌜ ((v : Canvas) → CanvasReady v n (width .0) b (now (canvas .entry)) → placeOf r ≡ splitCell v (gridOf (canvasLines (origin .0) v))) ⌝ }
 {
     let mut k = 0;
     while k < n {

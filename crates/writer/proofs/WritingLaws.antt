@@ -1,4 +1,4 @@
--- Laws of writing. `wrote-then` puts two parts together, `wrote-more` one more to those of a list, `wrote-none` starts; `putDown-over` is a part that fits, from the buffer's start.
+-- Laws of writing. `wrote-then` puts two parts together, `wrote-more` one more to those of a list, `wrote-none` starts; `putDown-fits` is a part that fits, `putDown-over` one from the buffer's start.
 use Prim.Native.Nat.{ℕ, zero, suc, _+_, _-_, _≤_, _<_, min}
 use mathlib.Core.Path.{_≡_, refl, sym, ap, ap₂, subst, _∙_}
 use mathlib.Core.Logic.{⊎-elim}
@@ -58,6 +58,14 @@ putDown-over [] [] h = refl
 putDown-over [] (p ∷ s) h = absurd (omega arith)
 putDown-over (b ∷ d) [] h = refl
 putDown-over (b ∷ d) (p ∷ s) h = ap (λ (l : List ℕ). p ∷ l) (putDown-over d s (omega arith))
+
+-- what fits, from any place on
+pub putDown-fits : (d : List ℕ) (at : ℕ) (s : List ℕ) → at + length s ≤ length d → putDown d at s ≡ take at d ++ s ++ drop (at + length s) d
+unfolding putDown
+putDown-fits d zero s h = let e : 0 + length s ≡ length s = omega arith in rw e (putDown-over d s (omega arith))
+putDown-fits [] (suc at) s h = absurd (omega arith)
+putDown-fits (b ∷ d) (suc at) s h =
+    let e : suc at + length s ≡ suc (at + length s) = omega arith in rw e (ap (λ (l : List ℕ). b ∷ l) (putDown-fits d at s (omega arith)))
 
 -- ---- the record
 pub wrote-none : (d : List ℕ) (at : ℕ) → Wrote d at [] d at

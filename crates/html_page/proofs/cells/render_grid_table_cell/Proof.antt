@@ -1,7 +1,7 @@
 -- `html_page::cells::render_grid_table_cell` meets its contract: the cell is its four parts.
 use mir.Facts.{fits-16-64}
 use borrow.Author.Needs.{needs}
-use Rattle.html_page.proofs.cells.CellLaws.{cell-written, inner-short, inner-low, cell-near}
+use Rattle.html_page.proofs.cells.CellLaws.{cell-written, inner-low, cell-near}
 use Rattle.html_page.proofs.cells.render_grid_table_cell.Statement.{statement}
 use Rattle.html_page.proofs.cells.render_grid_table_cell.Tie as tie
 
@@ -106,7 +106,7 @@ part-copy-end : tie.Need-part-copy-end
 part-copy-end c = search needs
 
 copy-requires : tie.Need-copy-requires
-copy-requires c κs = (search needs, search inner-short)
+copy-requires c κs = search needs
 
 close-cell-requires : tie.Need-close-cell-requires
 close-cell-requires c κs = search inner-low

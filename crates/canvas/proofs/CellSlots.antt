@@ -30,8 +30,8 @@ use Rattle.canvas.specs.Picture.{Drawable}
 use Rattle.canvas.proofs.PartLaws.{painted-is, OnEnd, OnSide, AtFirst, boxed, endTest, sideTest}
 use Rattle.canvas.proofs.PartLaws.{Part, onEnd, onSide, atFirst, away, part-of}
 
-pub clash : {t : Bool} → t ≡ true → t ≡ false → ⊥
-clash p q = true-not-false (sym p ∙ q)
+pub true-false-clash : {t : Bool} → t ≡ true → t ≡ false → ⊥
+true-false-clash p q = true-not-false (sym p ∙ q)
 
 rects-made : (n : ℕ) (rects : List ℕ) → rectsOf n rects ≡ map (rectIn rects) (upTo n)
 rects-made n rects =
@@ -125,23 +125,23 @@ module _ {v : Canvas} {n : ℕ} {rects : List ℕ} {rules : Rules} {cols : List 
     each-horizontal across j old h = go (part-of rules j (rectIn rects j) y x) where
       go : Part rules j (rectIn rects j) y x → (put j old ≡ ruleByte rules y) ⊎ (put j old ≡ old)
       go (onEnd e q) = inl (q old)
-      go (onSide e q) = absurd (clash across (side-across j h y x e))
-      go (atFirst e q) = absurd (clash across (first-no-horizontal j h y x e))
+      go (onSide e q) = absurd (true-false-clash across (side-across j h y x e))
+      go (atFirst e q) = absurd (true-false-clash across (first-no-horizontal j h y x e))
       go (away q) = inr (q old)
 
     each-vertical : horizontalAt v y x ≡ false → verticalAt v y x ≡ true → (j old : ℕ) → j < n → (put j old ≡ pipe) ⊎ (put j old ≡ old)
     each-vertical across up j old h = go (part-of rules j (rectIn rects j) y x) where
       go : Part rules j (rectIn rects j) y x → (put j old ≡ pipe) ⊎ (put j old ≡ old)
-      go (onEnd e q) = absurd (clash (end-horizontal j h y x e) across)
+      go (onEnd e q) = absurd (true-false-clash (end-horizontal j h y x e) across)
       go (onSide e q) = inl (q old)
-      go (atFirst e q) = absurd (clash up (first-no-vertical j h y x e))
+      go (atFirst e q) = absurd (true-false-clash up (first-no-vertical j h y x e))
       go (away q) = inr (q old)
 
     each-first : (k : ℕ) → k < n → AtFirst (rectIn rects k) y x → (j old : ℕ) → j < n → (put j old ≡ 256 + k) ⊎ (put j old ≡ old)
     each-first k u f j old h = go (part-of rules j (rectIn rects j) y x) where
       go : Part rules j (rectIn rects j) y x → (put j old ≡ 256 + k) ⊎ (put j old ≡ old)
-      go (onEnd e q) = absurd (clash (end-horizontal j h y x e) (first-no-horizontal k u y x f))
-      go (onSide e q) = absurd (clash (side-vertical j h y x e) (first-no-vertical k u y x f))
+      go (onEnd e q) = absurd (true-false-clash (end-horizontal j h y x e) (first-no-horizontal k u y x f))
+      go (onSide e q) = absurd (true-false-clash (side-vertical j h y x e) (first-no-vertical k u y x f))
       go (atFirst e q) = inl (q old ∙ ap (λ (k : ℕ). 256 + k) (first-only j k h u y x e f))
       go (away q) = inr (q old)
 
@@ -173,6 +173,6 @@ module _ {v : Canvas} {n : ℕ} {rects : List ℕ} {rules : Rules} {cols : List 
         let inside = between-isInside (r .top) (r .bottom) y l low in
         let column : isEdge (r .left) (r .right) x ≡ false =
         refused (isEdge (r .left) (r .right) x)
-        (λ t. clash (side-vertical k h y x (isEdge-end (r .left) (r .right) x t, l, low)) (first-no-vertical k h y x f)) in
+        (λ t. true-false-clash (side-vertical k h y x (isEdge-end (r .left) (r .right) x t, l, low)) (first-no-vertical k h y x f)) in
         painted-is put (256 + k) n old (each-first k h f) k h
         (λ o. rw (end-off k h (first-no-horizontal k h y x f), inside, column, eq-eqb x (r .left + 1) beside))

@@ -29,7 +29,7 @@ use Rattle.canvas.specs.Painting.{Drawn, ruleByte, bordered, cornerOf, a
 use Rattle.canvas.specs.Picture.{Drawable, Pictured}
 use Rattle.canvas.proofs.SlotLaws.{rect-inside}
 use Rattle.canvas.proofs.PartLaws.{AtFirst, side-passed}
-use Rattle.canvas.proofs.CellSlots.{clash, any-rects, side-number, boxIn, box-mem, frame-of, first-no-corner}
+use Rattle.canvas.proofs.CellSlots.{true-false-clash, any-rects, side-number, boxIn, box-mem, frame-of, first-no-corner}
 use Rattle.canvas.proofs.CellSlots.{bordered-horizontal, bordered-vertical, bordered-first}
 
 module _ {v : Canvas} {n : ℕ} {rects : List ℕ} {rules : Rules} {cols : List ℕ} {columns : ℕ} {xs marks : List ℕ} {row : ℕ}
@@ -73,7 +73,7 @@ module _ {v : Canvas} {n : ℕ} {rects : List ℕ} {rules : Rules} {cols : List 
       refused (colonAt v y x)
       (λ e.
       let (q, c) = colon-on y x e in
-      clash (rw q at h)
+      true-false-clash (rw q at h)
       (⊎-elim (λ p. c .between x (omega arith) (omega (arith, c .roomy))) (λ p. c .between x (omega (arith, c .roomy)) (omega arith)) (c .place)))
 
   inner-no-colon : (k : ℕ) → k < n → (y x : ℕ) → rectIn rects k .top < y → y < rectIn rects k .bottom → colonAt v y x ≡ false

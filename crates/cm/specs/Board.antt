@@ -62,7 +62,7 @@ pub record Inner (n : ℕ) (rects : List ℕ) (y k : ℕ) : Type 0 where
   pub above : y < rectIn rects k .bottom
 
 -- and the canvas bears their borders
-pub record Ready (v : Canvas) (n width : ℕ) (b : Board) (canvas : List ℕ) : Type 0 where
+pub record CanvasReady (v : Canvas) (n width : ℕ) (b : Board) (canvas : List ℕ) : Type 0 where
   pub boxed : Boxed v n b
   pub wide : width ≡ canvasWidth v
   pub canvasRoom : slotSpace ≤ length canvas

@@ -14,9 +14,9 @@ ghost use Rattle.text.specs.Columns.{columnsFrom};
 ghost use Rattle.text.specs.Utf8.{charIndices, wellFormed};
 
 // columns, character by character.
-fn columns_decoded(line: &[u8], column: Column) -> usize
+fn columns_decoded(line: &[u8], column: Column) -> Column
     requires { ⌜ (column .0 ≤ 1024) × (length (now line) ≤ 512) × (wellFormed (now line) ≡ true) ⌝ }
-    ensures { λ r. ⌜ r ≡ columnsFrom (column .0) (charIndices (now (line .entry))) ⌝ }
+    ensures { λ r. ⌜ r .0 ≡ columnsFrom (column .0) (charIndices (now (line .entry))) ⌝ }
 {
     let first = column.0;
     let mut byte = 0;
@@ -26,16 +26,16 @@ fn columns_decoded(line: &[u8], column: Column) -> usize
         n += span_in_set(value, Column(first + n));
         byte += size;
     }
-    n
+    Column(n)
 }
 
 // Where there is no tab, as many as the bytes add.
-pub fn columns(line: &[u8], column: Column) -> usize
+pub fn columns(line: &[u8], column: Column) -> Column
     requires { ⌜ (column .0 ≤ 1024) × (length (now line) ≤ 512) × (wellFormed (now line) ≡ true) ⌝ }
-    ensures { λ r. ⌜ r ≡ columnsFrom (column .0) (charIndices (now (line .entry))) ⌝ }
+    ensures { λ r. ⌜ r .0 ≡ columnsFrom (column .0) (charIndices (now (line .entry))) ⌝ }
 {
     if has_tab(line) {
         return columns_decoded(line, column);
     }
-    added_columns(line)
+    Column(added_columns(line))
 }

@@ -7,6 +7,7 @@ use canvas::Rules;
 use canvas::draw_canvas;
 use canvas::frames::place_cells;
 use reading::checks::Place;
+use text::Column;
 ghost use Prim.Native.Nat.{_+_, _≤_, _<_};
 ghost use mathlib.Core.Path.{_≡_};
 ghost use mathlib.Core.Bool.{false, _||_, cond};
@@ -18,7 +19,7 @@ ghost use Rattle.grid.specs.LayoutCall.{slotSpace, rectSpace};
 ghost use Rattle.drawing.specs.Plain.{Canvas, canvasHeight};
 ghost use Rattle.drawing.specs.RedrawCall.{drawingLent};
 ghost use Rattle.canvas.specs.Picture.{Pictured};
-ghost use Rattle.cm.specs.Board.{board, Ready};
+ghost use Rattle.cm.specs.Board.{board, CanvasReady};
 ghost use Rattle.cm.specs.Sketch.{rulesAt, plan, Planned, Sketched, Texted};
 ghost use Rattle.cm.specs.Late.{answerOf, lateSizes, lateArrays};
 
@@ -104,31 +105,31 @@ fn lines_too_large(sizes: LineSizes, height: usize) -> bool
 fn write_sizes(
     sizes: LineSizes,
     height: usize,
-    origin: usize,
+    origin: Column,
     out_lengths: &mut [u16],
     out_columns: &mut [u16],
 )
-    requires { ⌜ (height ≤ 128) × (length (sizes .lengths) ≡ 128) × (origin ≤ 255)
+    requires { ⌜ (height ≤ 128) × (length (sizes .lengths) ≡ 128) × (origin .0 ≤ 255)
         × (any (λ n. ltb 512 n) (take height (sizes .lengths)) ≡ false) ⌝ }
     requires { ⌜ (height ≤ length (now «out_lengths»)) × (height ≤ length (now «out_columns»)) ⌝ }
     ensures { λ _.
         ⌜ (now («out_lengths» .exit) ≡ over (take height (sizes .lengths)) (now («out_lengths» .entry)))
-        × (now («out_columns» .exit) ≡ over (replicate height origin) (now («out_columns» .entry))) ⌝ }
+        × (now («out_columns» .exit) ≡ over (replicate height (origin .0)) (now («out_columns» .entry))) ⌝ }
 {
     let lengths = sizes.lengths;
     let mut y = 0;
     while y < height {
         out_lengths[y] = lengths[y] as u16;
-        out_columns[y] = origin as u16;
+        out_columns[y] = origin.0 as u16;
         y += 1;
     }
 }
 
 // From a canvas that bears the borders: 2 for the lines' bytes, 11, 12, and the drawing.
 fn finish(
-    origin: usize,
+    origin: Column,
     height: usize,
-    width: usize,
+    width: Column,
     n: usize,
     rects: &[u8],
     canvas: &[u16],
@@ -142,13 +143,13 @@ fn finish(
     out_text: &mut [u8],
 ) -> RedrawAnswer
     requires { let b = board (now rects) (now text) (now starts) (now ends) (now firsts) (now heights) in
-        ⌜ ((v : Canvas) × Ready v n width b (now canvas) × (height ≡ canvasHeight v) × (origin ≤ 255)) ⌝ }
+        ⌜ ((v : Canvas) × CanvasReady v n (width .0) b (now canvas) × (height ≡ canvasHeight v) × (origin .0 ≤ 255)) ⌝ }
     ensures { λ r.
         let b = board (now (rects .entry)) (now (text .entry)) (now (starts .entry)) (now (ends .entry)) (now (firsts .entry)) (now (heights .entry)) in
         let before = drawingLent (now («out_lengths» .entry)) (now («out_columns» .entry)) (now («out_text» .entry)) in
         let after = drawingLent (now («out_lengths» .exit)) (now («out_columns» .exit)) (now («out_text» .exit)) in
-        ⌜ ((v : Canvas) → Ready v n width b (now (canvas .entry)) → height ≡ canvasHeight v
-        → (answerOf r ≡ lateSizes v origin before) × (after ≡ lateArrays v origin before)) ⌝ }
+        ⌜ ((v : Canvas) → CanvasReady v n (width .0) b (now (canvas .entry)) → height ≡ canvasHeight v
+        → (answerOf r ≡ lateSizes v (origin .0) before) × (after ≡ lateArrays v (origin .0) before)) ⌝ }
 {
     let sizes = count_lines(
         origin,
@@ -216,7 +217,7 @@ fn finish(
 
 // From where the borders of columns and rows stand: drawn size (2), 11, 12, and the drawing.
 pub fn draw_sized(
-    origin: usize,
+    origin: Column,
     columns: usize,
     rows: usize,
     n: usize,
@@ -239,7 +240,7 @@ pub fn draw_sized(
     out_text: &mut [u8],
 ) -> RedrawAnswer
     requires { ⌜ Planned (plan columns rows n heads foots (now cols) (now cells) xs ys marks) ⌝ }
-    requires { ⌜ (origin ≤ 255) × (rectSpace ≤ length (now rects)) × (slotSpace ≤ length (now canvas)) ⌝ }
+    requires { ⌜ (origin .0 ≤ 255) × (rectSpace ≤ length (now rects)) × (slotSpace ≤ length (now canvas)) ⌝ }
     requires { let p = plan columns rows n heads foots (now cols) (now cells) xs ys marks in
         ⌜ ((v : Canvas) × Sketched v p × Texted v (now text) (now starts) (now ends) (now firsts) (now heights)) ⌝ }
     ensures { λ r.
@@ -248,7 +249,7 @@ pub fn draw_sized(
         let after = drawingLent (now («out_lengths» .exit)) (now («out_columns» .exit)) (now («out_text» .exit)) in
         ⌜ ((v : Canvas) → Sketched v p
         → Texted v (now (text .entry)) (now (starts .entry)) (now (ends .entry)) (now (firsts .entry)) (now (heights .entry))
-        → (answerOf r ≡ lateSizes v origin before) × (after ≡ lateArrays v origin before)) ⌝ }
+        → (answerOf r ≡ lateSizes v (origin .0) before) × (after ≡ lateArrays v (origin .0) before)) ⌝ }
 {
     let right = xs[columns];
     let bottom = ys[rows];
@@ -275,7 +276,7 @@ pub fn draw_sized(
     finish(
         origin,
         bottom + 1,
-        right + 1,
+        Column(right + 1),
         n,
         rects,
         canvas,

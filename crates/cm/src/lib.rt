@@ -16,6 +16,7 @@ use reading::checks::Place;
 use sizes::measure_table;
 use table_checks::Checked;
 use table_checks::check_table;
+use text::Column;
 ghost use Prim.Native.Nat.{_≤_};
 ghost use mathlib.Core.Path.{_≡_};
 ghost use lib.ListN.{length};
@@ -57,7 +58,7 @@ fn space_short(
 
 // A table that passed the checks up to 8: its sizes, 9, 10, and the drawing.
 fn draw_table(
-    origin: usize,
+    origin: Column,
     columns: usize,
     n: usize,
     cols: &[u16],
@@ -76,14 +77,14 @@ fn draw_table(
     out_columns: &mut [u16],
     out_text: &mut [u8],
 ) -> RedrawAnswer
-    requires { ⌜ Tabled origin columns n (now cols) (now sections) (now cells) (now lengths) (now text) ⌝ }
+    requires { ⌜ Tabled (origin .0) columns n (now cols) (now sections) (now cells) (now lengths) (now text) ⌝ }
     requires { ⌜ (16384 ≤ length (now starts)) × (16384 ≤ length (now ends)) × (1024 ≤ length (now firsts)) × (1024 ≤ length (now heights)) ⌝ }
     requires { ⌜ (1024 ≤ length (now wides)) × (rectSpace ≤ length (now rects)) × (slotSpace ≤ length (now canvas)) ⌝ }
     ensures { λ r.
         let t = tableIn columns n (now (cols .entry)) (now (sections .entry)) (now (cells .entry)) (now (lengths .entry)) (now (text .entry)) in
         let before = drawingLent (now («out_lengths» .entry)) (now («out_columns» .entry)) (now («out_text» .entry)) in
         let after = drawingLent (now («out_lengths» .exit)) (now («out_columns» .exit)) (now («out_text» .exit)) in
-        ⌜ (answerOf r ≡ canvasSizes t origin before) × (after ≡ canvasArrays t origin before) ⌝ }
+        ⌜ (answerOf r ≡ canvasSizes t (origin .0) before) × (after ≡ canvasArrays t (origin .0) before) ⌝ }
 {
     let offsets = measure_table(
         columns,
@@ -206,7 +207,7 @@ pub fn redraw(
     ) {
         Checked::Refused { number, place } => RedrawAnswer::Refused { number, place },
         Checked::Fine => draw_table(
-            origin,
+            Column(origin),
             columns,
             n,
             cols,

@@ -3,6 +3,7 @@ use crate::arrays::edge;
 use crate::arrays::entry;
 use crate::columns::columns;
 use representation::STRIDE;
+use text::ByteAt;
 use text::Column;
 use writer::copy;
 use writer::fill;
@@ -18,7 +19,7 @@ ghost use Rattle.text.specs.Utf8.{charIndices, wellFormed};
 ghost use Rattle.text.specs.Lines.{noText};
 ghost use Rattle.drawing.specs.Plain.{Box, Canvas, canvasHeight, innerLine, drawnLine};
 ghost use Rattle.writer.specs.Writing.{Wrote};
-ghost use Rattle.cm.specs.Board.{board, noBox, linesAt, Lettered, Boxed, Inner, Ready};
+ghost use Rattle.cm.specs.Board.{board, noBox, linesAt, Lettered, Boxed, Inner, CanvasReady};
 
 // Line i of cell k, or none where the cell has fewer.
 pub fn cell_line<'a>(
@@ -47,28 +48,28 @@ pub fn cell_line<'a>(
 // A cell's whole inner line between two borders: a space, the text, and spaces up to the right one.
 fn write_inner(
     line: &[u8],
-    origin: usize,
-    left: usize,
-    right: usize,
+    origin: Column,
+    left: Column,
+    right: Column,
     out: &mut [u8],
-    at: usize,
-) -> usize
-    requires { ⌜ (origin ≤ 255) × (right < 128) × (at ≤ 2147483648) × (length (now line) ≤ 512) × (wellFormed (now line) ≡ true) ⌝ }
-    requires { ⌜ columnsFrom (origin + left + 2) (charIndices (now line)) + left + 2 ≤ right ⌝ }
+    at: ByteAt,
+) -> ByteAt
+    requires { ⌜ (origin .0 ≤ 255) × (right .0 < 128) × (at .0 ≤ 2147483648) × (length (now line) ≤ 512) × (wellFormed (now line) ≡ true) ⌝ }
+    requires { ⌜ columnsFrom (origin .0 + left .0 + 2) (charIndices (now line)) + left .0 + 2 ≤ right .0 ⌝ }
     ensures { λ r.
         let text = now (line .entry) in
-        ⌜ Wrote (now (out .entry)) at
-        (space ∷ text ++ replicate (right - left - 2 - columnsFrom (origin + left + 2) (charIndices text)) space) (now (out .exit)) r ⌝ }
+        let taken = columnsFrom (origin .0 + left .0 + 2) (charIndices text) in
+        ⌜ Wrote (now (out .entry)) (at .0) (space ∷ text ++ replicate (right .0 - left .0 - 2 - taken) space) (now (out .exit)) (r .0) ⌝ }
 {
-    let taken = columns(line, Column(origin + left + 2));
-    let first = put(b' ', out, at);
+    let taken = columns(line, Column(origin.0 + left.0 + 2));
+    let first = put(b' ', out, at.0);
     let end = copy(line, out, first);
-    fill(b' ', right - left - 2 - taken, out, end)
+    ByteAt(fill(b' ', right.0 - left.0 - 2 - taken.0, out, end))
 }
 
 // The inner line y of cell k.
 fn write_cell(
-    origin: usize,
+    origin: Column,
     y: usize,
     n: usize,
     rects: &[u8],
@@ -79,27 +80,27 @@ fn write_cell(
     heights: &[u16],
     k: usize,
     out: &mut [u8],
-    at: usize,
-) -> usize
+    at: ByteAt,
+) -> ByteAt
     requires { let b = board (now rects) (now text) (now starts) (now ends) (now firsts) (now heights) in
-        ⌜ ((v : Canvas) × Boxed v n b × Inner n (now rects) y k × (origin ≤ 255) × (at ≤ 2147483648)) ⌝ }
+        ⌜ ((v : Canvas) × Boxed v n b × Inner n (now rects) y k × (origin .0 ≤ 255) × (at .0 ≤ 2147483648)) ⌝ }
     ensures { λ r.
         let b = board (now (rects .entry)) (now (text .entry)) (now (starts .entry)) (now (ends .entry)) (now (firsts .entry)) (now (heights .entry)) in
-        ⌜ ((v : Canvas) → Boxed v n b → Wrote (now (out .entry)) at (innerLine origin (getD (v .boxes) k noBox) y) (now (out .exit)) r) ⌝ }
-    ensures { λ r. ⌜ r ≤ at + 641 ⌝ }
+        ⌜ ((v : Canvas) → Boxed v n b → Wrote (now (out .entry)) (at .0) (innerLine (origin .0) (getD (v .boxes) k noBox) y) (now (out .exit)) (r .0)) ⌝ }
+    ensures { λ r. ⌜ r .0 ≤ at .0 + 641 ⌝ }
 {
     let i = y - 1 - edge(rects, 4 * k);
     let line = cell_line(text, starts, ends, firsts, heights, k, i);
-    let left = edge(rects, 4 * k + 1);
-    let right = edge(rects, 4 * k + 3);
+    let left = Column(edge(rects, 4 * k + 1));
+    let right = Column(edge(rects, 4 * k + 3));
     write_inner(line, origin, left, right, out, at)
 }
 
 // Line y of the drawing: each border's byte, and at a cell's first inner column its whole inner line.
 pub fn write_line(
-    origin: usize,
+    origin: Column,
     y: usize,
-    width: usize,
+    width: Column,
     n: usize,
     rects: &[u8],
     canvas: &[u16],
@@ -109,22 +110,23 @@ pub fn write_line(
     firsts: &[u16],
     heights: &[u16],
     out: &mut [u8],
-    at: usize,
-) -> usize
+    at: ByteAt,
+) -> ByteAt
     requires { let b = board (now rects) (now text) (now starts) (now ends) (now firsts) (now heights) in
-        ⌜ ((v : Canvas) × Ready v n width b (now canvas) × (y < canvasHeight v) × (origin ≤ 255) × (at ≤ 1073741824)) ⌝ }
+        ⌜ ((v : Canvas) × CanvasReady v n (width .0) b (now canvas) × (y < canvasHeight v) × (origin .0 ≤ 255) × (at .0 ≤ 1073741824)) ⌝ }
     ensures { λ r.
         let b = board (now (rects .entry)) (now (text .entry)) (now (starts .entry)) (now (ends .entry)) (now (firsts .entry)) (now (heights .entry)) in
-        ⌜ ((v : Canvas) → Ready v n width b (now (canvas .entry)) → y < canvasHeight v
-        → Wrote (now (out .entry)) at (drawnLine origin v y .text) (now (out .exit)) r) ⌝ }
-    ensures { λ r. ⌜ r ≤ at + 131072 ⌝ }
+        ⌜ ((v : Canvas) → CanvasReady v n (width .0) b (now (canvas .entry)) → y < canvasHeight v
+        → Wrote (now (out .entry)) (at .0) (drawnLine (origin .0) v y .text) (now (out .exit)) (r .0)) ⌝ }
+    ensures { λ r. ⌜ r .0 ≤ at .0 + 131072 ⌝ }
 {
+    let across = width.0;
     let mut end = at;
     let mut x = 0;
-    while x < width {
+    while x < across {
         let code = entry(canvas, y * STRIDE + x);
         if code < 256 {
-            end = put(code as u8, out, end);
+            end = ByteAt(put(code as u8, out, end.0));
             x += 1;
         } else {
             let k = code - 256;

@@ -1,10 +1,12 @@
 // A drawing's lines: counted, and written.
 use crate::lines::write_line;
+use text::ByteAt;
+use text::Column;
 ghost use Prim.Native.Nat.{_≤_};
 ghost use mathlib.Core.Path.{_≡_};
 ghost use Rattle.drawing.specs.Plain.{Canvas, canvasHeight, canvasLines};
 ghost use Rattle.writer.specs.Writing.{putDown};
-ghost use Rattle.cm.specs.Board.{board, Ready};
+ghost use Rattle.cm.specs.Board.{board, CanvasReady};
 ghost use Rattle.cm.specs.Counted.{Counted, drawnText};
 
 // The length of each line, and of all together.
@@ -14,9 +16,9 @@ pub struct LineSizes {
 }
 
 pub fn count_lines(
-    origin: usize,
+    origin: Column,
     height: usize,
-    width: usize,
+    width: Column,
     n: usize,
     rects: &[u8],
     canvas: &[u16],
@@ -27,10 +29,10 @@ pub fn count_lines(
     heights: &[u16],
 ) -> LineSizes
     requires { let b = board (now rects) (now text) (now starts) (now ends) (now firsts) (now heights) in
-        ⌜ ((v : Canvas) × Ready v n width b (now canvas) × (height ≡ canvasHeight v) × (origin ≤ 255)) ⌝ }
+        ⌜ ((v : Canvas) × CanvasReady v n (width .0) b (now canvas) × (height ≡ canvasHeight v) × (origin .0 ≤ 255)) ⌝ }
     ensures { λ r.
         let b = board (now (rects .entry)) (now (text .entry)) (now (starts .entry)) (now (ends .entry)) (now (firsts .entry)) (now (heights .entry)) in
-        ⌜ ((v : Canvas) → Ready v n width b (now (canvas .entry)) → height ≡ canvasHeight v → Counted (canvasLines origin v) r) ⌝ }
+        ⌜ ((v : Canvas) → CanvasReady v n (width .0) b (now (canvas .entry)) → height ≡ canvasHeight v → Counted (canvasLines (origin .0) v) r) ⌝ }
 {
     let mut none = [0u8; 0];
     let mut lengths = [0; 128];
@@ -50,10 +52,10 @@ pub fn count_lines(
             firsts,
             heights,
             &mut none,
-            0,
+            ByteAt(0),
         );
-        lengths[y] = end;
-        bytes += end;
+        lengths[y] = end.0;
+        bytes += end.0;
         y += 1;
     }
     LineSizes { lengths, bytes }
@@ -61,9 +63,9 @@ pub fn count_lines(
 
 // All lines, back to back, as far as the space reaches.
 pub fn write_lines(
-    origin: usize,
+    origin: Column,
     height: usize,
-    width: usize,
+    width: Column,
     n: usize,
     rects: &[u8],
     canvas: &[u16],
@@ -75,13 +77,13 @@ pub fn write_lines(
     out: &mut [u8],
 )
     requires { let b = board (now rects) (now text) (now starts) (now ends) (now firsts) (now heights) in
-        ⌜ ((v : Canvas) × Ready v n width b (now canvas) × (height ≡ canvasHeight v) × (origin ≤ 255)) ⌝ }
+        ⌜ ((v : Canvas) × CanvasReady v n (width .0) b (now canvas) × (height ≡ canvasHeight v) × (origin .0 ≤ 255)) ⌝ }
     ensures { λ _.
         let b = board (now (rects .entry)) (now (text .entry)) (now (starts .entry)) (now (ends .entry)) (now (firsts .entry)) (now (heights .entry)) in
-        ⌜ ((v : Canvas) → Ready v n width b (now (canvas .entry)) → height ≡ canvasHeight v
-        → now (out .exit) ≡ putDown (now (out .entry)) 0 (drawnText (canvasLines origin v))) ⌝ }
+        ⌜ ((v : Canvas) → CanvasReady v n (width .0) b (now (canvas .entry)) → height ≡ canvasHeight v
+        → now (out .exit) ≡ putDown (now (out .entry)) 0 (drawnText (canvasLines (origin .0) v))) ⌝ }
 {
-    let mut at = 0;
+    let mut at = ByteAt(0);
     let mut y = 0;
     while y < height {
         at = write_line(

@@ -25,7 +25,7 @@ ghost use Rattle.reading.specs.Checks.{placeOf};
 ghost use Rattle.drawing.specs.Plain.{Box, Canvas, canvasLines};
 ghost use Rattle.drawing.specs.Redraw.{splits as splitsIn, splitCell};
 ghost use Rattle.representation.specs.Arrays.{rectIn};
-ghost use Rattle.cm.specs.Board.{board, linesAt, Lettered, Ready};
+ghost use Rattle.cm.specs.Board.{board, linesAt, Lettered, CanvasReady};
 ghost use Rattle.cm.specs.Hits.{Hit, Hittable, HitLines, splitColumn};
 
 // For each column, how many lines from the first on show `|` or `+` there.
@@ -48,10 +48,10 @@ fn counted(shown: bool, lines: u8, i: u8) -> u8
 }
 
 // The text of line i, from column `from` of the canvas on.
-fn hit_line(line: &[u8], column: Column, from: usize, i: u8, hits: Hits) -> Hits
+fn hit_line(line: &[u8], column: Column, from: Column, i: u8, hits: Hits) -> Hits
     requires { ⌜ (column .0 ≤ 1024) × (length (now line) ≤ 512) × (wellFormed (now line) ≡ true) × (i < 255) × (length (hits .lines) ≡ 128) ⌝ }
-    requires { ⌜ from + columnsFrom (column .0) (charIndices (now line)) < 128 ⌝ }
-    ensures { λ r. ⌜ Hit (column .0) (now (line .entry)) from i (hits .lines) (r .lines) ⌝ }
+    requires { ⌜ from .0 + columnsFrom (column .0) (charIndices (now line)) < 128 ⌝ }
+    ensures { λ r. ⌜ Hit (column .0) (now (line .entry)) (from .0) i (hits .lines) (r .lines) ⌝ }
 {
     let mut lines = hits.lines;
     let first = column.0;
@@ -59,7 +59,7 @@ fn hit_line(line: &[u8], column: Column, from: usize, i: u8, hits: Hits) -> Hits
     let mut n = 0;
     while byte < line.len() {
         let Known { value, size } = known_character(line, ByteAt(byte));
-        lines[from + n] = counted(is_vertical(value), lines[from + n], i);
+        lines[from.0 + n] = counted(is_vertical(value), lines[from.0 + n], i);
         n += span_in_set(value, Column(first + n));
         byte += size;
     }
@@ -69,7 +69,7 @@ fn hit_line(line: &[u8], column: Column, from: usize, i: u8, hits: Hits) -> Hits
 // The first `count` lines of cell k, whose text starts at column `from` of the canvas.
 fn hit_lines(
     column: Column,
-    from: usize,
+    from: Column,
     count: usize,
     text: &[u8],
     starts: &[u16],
@@ -80,10 +80,10 @@ fn hit_lines(
 ) -> Hits
     requires { ⌜ (column .0 ≤ 1024) × (count < 128) ⌝ }
     requires { ⌜ ((bs : List Box) × Lettered bs (now text) (now starts) (now ends) (now firsts) (now heights) × (k < length bs)
-        × Hittable (column .0) from (linesAt bs k)) ⌝ }
+        × Hittable (column .0) (from .0) (linesAt bs k)) ⌝ }
     ensures { λ r.
         ⌜ ((bs : List Box) → Lettered bs (now (text .entry)) (now (starts .entry)) (now (ends .entry)) (now (firsts .entry)) (now (heights .entry))
-        → k < length bs → HitLines (column .0) (linesAt bs k) from count (r .lines)) ⌝ }
+        → k < length bs → HitLines (column .0) (linesAt bs k) (from .0) count (r .lines)) ⌝ }
 {
     let mut hits = Hits { lines: [0; 128] };
     let mut i = 0;
@@ -126,8 +126,8 @@ fn split_column(
 
 // Would cell k be read as two? Its lines are looked at only where a `+` above and one below meet.
 fn splits(
-    origin: usize,
-    width: usize,
+    origin: Column,
+    width: Column,
     n: usize,
     rects: &[u8],
     canvas: &[u16],
@@ -139,10 +139,11 @@ fn splits(
     k: usize,
 ) -> bool
     requires { let b = board (now rects) (now text) (now starts) (now ends) (now firsts) (now heights) in
-        ⌜ ((v : Canvas) × Ready v n width b (now canvas) × (k < n) × (origin ≤ 255)) ⌝ }
+        ⌜ ((v : Canvas) × CanvasReady v n (width .0) b (now canvas) × (k < n) × (origin .0 ≤ 255)) ⌝ }
     ensures { λ r.
         let b = board (now (rects .entry)) (now (text .entry)) (now (starts .entry)) (now (ends .entry)) (now (firsts .entry)) (now (heights .entry)) in
-        ⌜ ((v : Canvas) → Ready v n width b (now (canvas .entry)) → r ≡ splitsIn (gridOf (canvasLines origin v)) (rectIn (now (rects .entry)) k)) ⌝ }
+        ⌜ ((v : Canvas) → CanvasReady v n (width .0) b (now (canvas .entry))
+        → r ≡ splitsIn (gridOf (canvasLines (origin .0) v)) (rectIn (now (rects .entry)) k)) ⌝ }
 {
     let top = edge(rects, 4 * k);
     let left = edge(rects, 4 * k + 1);
@@ -164,8 +165,8 @@ fn splits(
         return false;
     }
     let hits = hit_lines(
-        Column(origin + left + 2),
-        left + 2,
+        Column(origin.0 + left + 2),
+        Column(left + 2),
         lines,
         text,
         starts,
@@ -179,8 +180,8 @@ fn splits(
 
 // The first cell that would be read as two.
 pub fn first_split(
-    origin: usize,
-    width: usize,
+    origin: Column,
+    width: Column,
     n: usize,
     rects: &[u8],
     canvas: &[u16],
@@ -191,10 +192,10 @@ pub fn first_split(
     heights: &[u16],
 ) -> Place
     requires { let b = board (now rects) (now text) (now starts) (now ends) (now firsts) (now heights) in
-        ⌜ ((v : Canvas) × Ready v n width b (now canvas) × (origin ≤ 255)) ⌝ }
+        ⌜ ((v : Canvas) × CanvasReady v n (width .0) b (now canvas) × (origin .0 ≤ 255)) ⌝ }
     ensures { λ r.
         let b = board (now (rects .entry)) (now (text .entry)) (now (starts .entry)) (now (ends .entry)) (now (firsts .entry)) (now (heights .entry)) in
-        ⌜ ((v : Canvas) → Ready v n width b (now (canvas .entry)) → placeOf r ≡ splitCell v (gridOf (canvasLines origin v))) ⌝ }
+        ⌜ ((v : Canvas) → CanvasReady v n (width .0) b (now (canvas .entry)) → placeOf r ≡ splitCell v (gridOf (canvasLines (origin .0) v))) ⌝ }
 {
     let mut k = 0;
     while k < n {

@@ -1,13 +1,15 @@
 -- Laws of what is written into a buffer, part after part.
 use Prim.Native.Nat.{ℕ, _+_, _*_, _-_, _≤_, _<_}
-use mathlib.Core.Path.{_≡_, refl, ap, sym, _∙_}
+use mathlib.Core.Path.{_≡_, refl, ap, ap₂, sym, _∙_}
 use mathlib.Core.List.{List, [], _∷_, _++_, append-nil, append-assoc}
 use native.Mathlib.Numerals.{add-one}
 use native.Mathlib.Omega.{arith}
 use lib.ListN.{length, take, drop, getD, set, length-set, length-append}
-use lib.Seq.{take-suc, take-suc-set, take-all, length-take-le}
+use lib.Seq.{take-suc, take-suc-set, take-all, take-append-seam, length-take-le}
 use Rattle.seq.specs.Decimal.{decimal}
 use Rattle.text.specs.Characters.{space}
+use Rattle.writer.specs.Writing.{Wrote}
+use Rattle.writer.proofs.WritingLaws.{putDown-fits, putDown-length}
 use Rattle.writer.proofs.decimals.DigitLaws.{decimal-whole, decimal-short}
 use Rattle.printing.specs.Printing.{Put, Prints, spaced}
 
@@ -56,24 +58,18 @@ put-prints p = record { within = omega (arith, p .room, p .same); start = p .byt
 pub prints-as : {out : List ℕ} {r : ℕ} {s t : List ℕ} → Prints out r s → s ≡ t → Prints out r t
 prints-as p e = record { within = p .within; start = p .start ∙ e }
 
--- Copying
-
-pub copied-none : (d s : List ℕ) (at : ℕ) → at + length s ≤ length d → Put 0 d d at (at + 0) (take 0 s)
-copied-none d s at h =
-    let e : at + 0 ≡ at = omega arith in
-    rw e (put-none d at (omega arith))
-
-module _ {d e : List ℕ} (s : List ℕ) (at : ℕ) where
-  pub copied-next : (i : ℕ) → i < length s → at + length s ≤ length d → Put i d e at (at + i) (take i s)
-      → Put (i + 1) d (set e (at + i) (getD s i 0)) at (at + (i + 1)) (take (i + 1) s)
-  copied-next i h room p =
-      let there : at + i < length e = omega (arith, p .same) in
-      let next : at + (i + 1) ≡ at + i + 1 = omega arith in
-      let more : take (i + 1) s ≡ take i s ++ getD s i 0 ∷ [] = rw add-one (take-suc s i 0 h) in
-      rw (next, more) (put-then p (put-byte e (at + i) (getD s i 0) there))
-
-  pub copied-all : (i : ℕ) → i ≤ length s → length s ≤ i → Put i d e at (at + i) (take i s) → Put (length s) d e at (at + i) s
-  copied-all i h k p = put-most (put-as p (take-all i s k)) h
+-- what a writer puts down, where all of it fits
+pub put-wrote : {d e s : List ℕ} {at r : ℕ} → at + length s ≤ length d → Wrote d at s e r → Put (length s) d e at r s
+put-wrote {d} {e} {s} {at} {r} h p =
+    let here = length-take-le at d (omega arith) in
+    let end : r ≡ length (take at d ++ s) = omega (arith, p .next, here, length-append (take at d) s) in
+    let whole : e ≡ take at d ++ s ++ drop (at + length s) d = p .bytes ∙ putDown-fits d at s h in
+    record {
+      same = ap length (p .bytes) ∙ putDown-length d at s;
+      room = omega (arith, p .next);
+      few = omega (arith, p .next);
+      bytes = ap₂ (λ (n : ℕ) (l : List ℕ). take n l) end whole ∙ take-append-seam (take at d ++ s) (drop (at + length s) d);
+    }
 
 -- Decimal digits
 

@@ -20,12 +20,7 @@ pub fn copy(bytes: &[u8], out: &mut [u8], at: usize) -> usize
     requires { ⌜ at + length (now bytes) ≤ length (now out) ⌝ }
     ensures { λ r. ⌜ Put (length (now (bytes .entry))) (now (out .entry)) (now (out .exit)) at r (now (bytes .entry)) ⌝ }
 {
-    let mut i = 0;
-    while i < bytes.len() {
-        out[at + i] = bytes[i];
-        i += 1;
-    }
-    at + i
+    writer::copy(bytes, out, at)
 }
 
 fn decimal(number: usize, out: &mut [u8], at: usize) -> usize

@@ -33,6 +33,7 @@ use crate::pages::answer_page;
 use crate::pages::answer_share;
 use crate::places::answer_placed;
 use libc::STDOUT_FILENO;
+use replaying::first_line;
 use replaying::next_line;
 
 fn answer_case(case: &[u8]) {
@@ -52,22 +53,13 @@ fn answer_case(case: &[u8]) {
     io::write_all(STDOUT_FILENO, b"\n");
 }
 
-// At most 65,536 cases.
 fn answer_all(buffer: &mut [u8]) {
-    let mut at = 0;
-    let mut held = 0;
-    let mut answered: usize = 0;
-    while answered < 65536 {
-        let line = next_line(buffer, at, held);
+    let mut line = first_line(buffer);
+    while 0 < line.left {
         let start = line.start;
         let end = line.end;
-        held = line.held;
-        if held <= end {
-            return;
-        }
         answer_case(&buffer[start..end]);
-        at = end + 1;
-        answered += 1;
+        line = next_line(buffer, line);
     }
 }
 

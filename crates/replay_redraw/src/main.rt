@@ -11,6 +11,7 @@
 // An answer is `refused`, number and place; or `accepted`, lines, bytes, all line lengths, all line columns, and the text as it is.
 use cm::draw::RedrawAnswer;
 use libc::STDOUT_FILENO;
+use replaying::first_line;
 use replaying::least;
 use replaying::next_line;
 use replaying::number_field;
@@ -108,22 +109,13 @@ fn answer_line(line: &[u8]) {
     );
 }
 
-// At most 65,536 cases.
 fn answer_all(buffer: &mut [u8]) {
-    let mut at = 0;
-    let mut held = 0;
-    let mut answered: usize = 0;
-    while answered < 65536 {
-        let line = next_line(buffer, at, held);
+    let mut line = first_line(buffer);
+    while 0 < line.left {
         let start = line.start;
         let end = line.end;
-        held = line.held;
-        if held <= end {
-            return;
-        }
         answer_line(&buffer[start..end]);
-        at = end + 1;
-        answered += 1;
+        line = next_line(buffer, line);
     }
 }
 

@@ -9,6 +9,7 @@
 // Fields are parted by single spaces. Bytes are pairs of hexadecimal digits in lower case, `-` for none, and numbers decimal, of
 // at most 18 digits.
 use libc::STDOUT_FILENO;
+use replaying::first_line;
 use replaying::next_line;
 use replaying::number_field;
 use replaying::print;
@@ -84,22 +85,13 @@ fn answer_line(case: &[u8]) {
     io::write_all(STDOUT_FILENO, b"\n");
 }
 
-// At most 65,536 cases.
 fn answer_all(buffer: &mut [u8]) {
-    let mut at = 0;
-    let mut held = 0;
-    let mut answered: usize = 0;
-    while answered < 65536 {
-        let line = next_line(buffer, at, held);
+    let mut line = first_line(buffer);
+    while 0 < line.left {
         let start = line.start;
         let end = line.end;
-        held = line.held;
-        if held <= end {
-            return;
-        }
         answer_line(&buffer[start..end]);
-        at = end + 1;
-        answered += 1;
+        line = next_line(buffer, line);
     }
 }
 

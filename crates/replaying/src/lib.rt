@@ -1,6 +1,7 @@
 // What the programs that replay cases have in common: the lines of the input, the fields of a case, and printing.
 use libc::STDOUT_FILENO;
 ghost use Prim.Native.Nat.{_≤_, _<_};
+ghost use mathlib.Core.Path.{_≡_};
 ghost use lib.ListN.{length};
 
 // The first `stop` at or after `from`, or the end.
@@ -343,34 +344,57 @@ fn move_down(buffer: &mut [u8], from: usize, end: usize) -> usize
     end - from
 }
 
-// A line of the input: where it starts and ends in the buffer, and how many bytes the buffer holds. One that ends with them is no
-// whole line.
+// At most 65,536 lines are read.
+const MAX_LINES: usize = 65536;
+
+// A whole line of the input: where it starts and ends in the buffer, how many bytes the buffer holds, and how many lines may be
+// read from it on, with it; 0 where there is none.
 pub struct Line {
     pub start: usize,
     pub end: usize,
     pub held: usize,
+    pub left: usize,
+}
+
+// One that ends with the bytes held is no whole line.
+fn line_at(start: usize, end: usize, held: usize, left: usize) -> Line
+    ensures { λ r. ⌜ (r .start ≡ start) × (r .end ≡ end) × (r .held ≡ held) × (r .left ≤ left) ⌝ }
+{
+    let left = if end < held { left } else { 0 };
+    Line {
+        start,
+        end,
+        held,
+        left,
+    }
 }
 
 // The line from `from` on, in a buffer that holds so many bytes. Where they end before it does, they are moved to the start and the
 // buffer is filled.
-pub fn next_line(buffer: &mut [u8], from: usize, held: usize) -> Line
+fn line_from(buffer: &mut [u8], from: usize, held: usize, left: usize) -> Line
     requires { ⌜ (from ≤ held) × (held ≤ length (now buffer)) ⌝ }
-    ensures { λ r. ⌜ (r .start ≤ r .end) × (r .end ≤ r .held) × (r .held ≤ length (now (buffer .exit))) ⌝ }
+    ensures { λ r. ⌜ (r .start ≤ r .end) × (r .end ≤ r .held) × (r .held ≤ length (now (buffer .exit))) × (r .left ≤ left) ⌝ }
 {
     let end = find(&buffer[0..held], from, b'\n');
     if end < held {
-        return Line {
-            start: from,
-            end,
-            held,
-        };
+        return line_at(from, end, held, left);
     }
     let kept = move_down(buffer, from, held);
     let more = io::read_full(libc::STDIN_FILENO, &mut buffer[kept..]);
     let all = kept + more;
-    Line {
-        start: 0,
-        end: find(&buffer[0..all], 0, b'\n'),
-        held: all,
-    }
+    line_at(0, find(&buffer[0..all], 0, b'\n'), all, left)
+}
+
+pub fn first_line(buffer: &mut [u8]) -> Line
+    ensures { λ r. ⌜ (r .start ≤ r .end) × (r .end ≤ r .held) × (r .held ≤ length (now (buffer .exit))) ⌝ }
+{
+    line_from(buffer, 0, 0, MAX_LINES)
+}
+
+pub fn next_line(buffer: &mut [u8], line: Line) -> Line
+    requires { ⌜ (line .end ≤ line .held) × (line .held ≤ length (now buffer)) × (0 < line .left) ⌝ }
+    ensures { λ r. ⌜ (r .start ≤ r .end) × (r .end ≤ r .held) × (r .held ≤ length (now (buffer .exit))) × (r .left < line .left) ⌝ }
+{
+    let from = least(line.end + 1, line.held);
+    line_from(buffer, from, line.held, line.left - 1)
 }

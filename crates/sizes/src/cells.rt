@@ -1,6 +1,7 @@
 // How many lines and columns each cell has.
 use crate::larger;
 use crate::lines::line_columns;
+use text::Column;
 ghost use Prim.Native.Nat.{_+_, _*_, _≤_};
 ghost use mathlib.Core.Path.{_≡_};
 ghost use lib.ListN.{length};
@@ -14,7 +15,7 @@ ghost use Rattle.sizes.specs.Cells.{Counted};
 // How many lines, up to the last that is not empty, and the columns of the widest.
 pub struct CellSize {
     pub lines: usize,
-    pub columns: usize,
+    pub columns: Column,
 }
 
 // Of `count` lines from line `first` on.
@@ -22,7 +23,7 @@ fn cell_size(text: &[u8], starts: &[u16], ends: &[u16], first: usize, count: usi
     requires { ⌜ (first + count ≤ 16384) × Measurable (now text) (now starts) (now ends) (first + count) ⌝ }
     ensures { λ r.
         let lines = dropEmptyLast (linesAt (now (text .entry)) (now (starts .entry)) (now (ends .entry)) first count) in
-        ⌜ ((r .lines ≡ length lines) × (r .lines ≤ count)) × ((r .columns ≡ widest lines) × (r .columns ≤ 2048)) ⌝ }
+        ⌜ ((r .lines ≡ length lines) × (r .lines ≤ count)) × ((r .columns .0 ≡ widest lines) × (r .columns .0 ≤ 2048)) ⌝ }
 {
     let mut lines = 0;
     let mut columns = 0;
@@ -30,13 +31,16 @@ fn cell_size(text: &[u8], starts: &[u16], ends: &[u16], first: usize, count: usi
     while i < count {
         let from = starts[first + i] as usize;
         let to = ends[first + i] as usize;
-        columns = larger(columns, line_columns(&text[from..to]));
+        columns = larger(columns, line_columns(&text[from..to]).0);
         if from < to {
             lines = i + 1;
         }
         i += 1;
     }
-    CellSize { lines, columns }
+    CellSize {
+        lines,
+        columns: Column(columns),
+    }
 }
 
 // For each cell the number of its first line, its number of lines, and the columns of the widest of
@@ -65,7 +69,7 @@ pub fn measure_cells(
         let size = cell_size(text, starts, ends, first, count);
         firsts[k] = first as u16;
         heights[k] = size.lines as u16;
-        wides[k] = (size.columns + 1) as u16;
+        wides[k] = (size.columns.0 + 1) as u16;
         first += count;
         k += 1;
     }

@@ -1,5 +1,6 @@
 // The lines of a table's text: where each starts and ends, and its columns.
 use rule_lines::trim::trim_end;
+use text::Column;
 use utf8::columns::added_columns;
 ghost use Prim.Native.Nat.{_*_, _≤_};
 ghost use mathlib.Core.Path.{_≡_};
@@ -28,9 +29,9 @@ pub fn trim_lines(lengths: &[u16], text: &[u8], starts: &mut [u16], ends: &mut [
 }
 
 // The columns of a line, a tab counted as 4.
-pub fn line_columns(line: &[u8]) -> usize
+pub fn line_columns(line: &[u8]) -> Column
     requires { ⌜ (length (now line) ≤ 512) × (wellFormed (now line) ≡ true) ⌝ }
-    ensures { λ r. ⌜ (r ≡ lineColumns (now (line .entry))) × (r ≤ 4 * length (now (line .entry))) ⌝ }
+    ensures { λ r. ⌜ (r .0 ≡ lineColumns (now (line .entry))) × (r .0 ≤ 4 * length (now (line .entry))) ⌝ }
 {
-    added_columns(line)
+    Column(added_columns(line))
 }

@@ -23,7 +23,7 @@ use Rattle.reading.specs.declared.checks.Place.the-variants.{At, Nowhere}
 use Rattle.representation.specs.TableIn.{tableIn, countsIn, Tabled}
 use Rattle.representation.proofs.TableInLaws.{columns-length, cells-length, lines-whole}
 use Rattle.table_checks.specs.Agreement.{Agree}
-use Rattle.table_checks.specs.Places.{gridIn, Placed}
+use Rattle.table_checks.specs.Places.{gridIn, CellsPlaced}
 use Rattle.table_checks.specs.Checks.{afterChecks}
 use Rattle.table_checks.specs.declared.Checked.{Checked}
 use Rattle.table_checks.specs.declared.Checked.the-variants.{Fine, Refused}
@@ -85,7 +85,7 @@ module _ (s : TableSizes) (t : TableArrays) {a : Bool} (told : a ≡ tableContra
 
   pub placed : (origin : ℕ) {l : Bool}
       → l ≡ tableTooLarge origin (tableIn (s .columns) (s .cells) (t .columns) (t .sections) (t .cells) (t .lengths) (t .text)) → l ≡ false
-      → Placed (s .columns) (s .cells) (t .sections) (t .cells)
+      → CellsPlaced (s .columns) (s .cells) (t .sections) (t .cells)
   placed origin large small =
       let table = tableIn (s .columns) (s .cells) (t .columns) (t .sections) (t .cells) (t .lengths) (t .text) in
       let shape = shape-limits table (tableTooLarge-parts origin table (sym large ∙ small) .1) in

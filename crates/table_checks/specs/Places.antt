@@ -18,7 +18,7 @@ abbrev pub gridIn : (columns n : ℕ) → (sections cells : List ℕ) → Table
 gridIn columns n sections cells = record { columns = columnsOfArray columns []; sections = map codeSection sections; cells = placesOf n cells }
 
 -- arrays of a shape that is not too large, with codes that stand for sections
-pub record Placed (columns n : ℕ) (sections cells : List ℕ) : Type 0 where
+pub record CellsPlaced (columns n : ℕ) (sections cells : List ℕ) : Type 0 where
   pub cellsRoom : length cells ≡ 5 * n
   pub narrow : columns ≤ 127
   pub low : length sections ≤ 127
@@ -33,5 +33,5 @@ pub record Within (columns rows : ℕ) (cells : List ℕ) (k : ℕ) : Type 0 whe
 
 -- every cell of them is so
 pub record Laid (columns n : ℕ) (sections cells : List ℕ) : Type 0 where
-  pub placed : Placed columns n sections cells
+  pub placed : CellsPlaced columns n sections cells
   pub within : (k : ℕ) → k < n → Within columns (length sections) cells k

@@ -8,7 +8,7 @@ ghost use lib.ListN.{length};
 ghost use lib.Dec.{leb};
 ghost use Rattle.seq.specs.Lists.{neighbours};
 ghost use Rattle.drawing.specs.GridRules.{comesBefore, allInside, noneCrosses, keepsRules};
-ghost use Rattle.table_checks.specs.Places.{placesOf, gridIn, Placed, Laid};
+ghost use Rattle.table_checks.specs.Places.{placesOf, gridIn, CellsPlaced, Laid};
 
 // Do the cells stand in order of row, then column?
 fn in_order(n: usize, cells: &[u16]) -> bool
@@ -83,7 +83,7 @@ fn none_crosses(columns: usize, n: usize, sections: &[u8], cells: &[u16]) -> boo
 
 // The grid rules, in the order of their definition: a later one is tested where the earlier ones are kept.
 pub fn keeps_rules(columns: usize, n: usize, sections: &[u8], cells: &[u16]) -> bool
-    requires { ⌜ Placed columns n (now sections) (now cells) ⌝ }
+    requires { ⌜ CellsPlaced columns n (now sections) (now cells) ⌝ }
     ensures { λ r. ⌜ r ≡ keepsRules (gridIn columns n (now (sections .entry)) (now (cells .entry))) ⌝ }
 {
     if !in_order(n, cells) {

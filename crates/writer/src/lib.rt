@@ -31,7 +31,7 @@ fn fitting(count: usize, at: usize, space: usize) -> usize
 }
 
 pub fn copy(bytes: &[u8], out: &mut [u8], at: usize) -> usize
-    requires { ⌜ (at ≤ 4294967296) × (length (now bytes) ≤ 65536) ⌝ }
+    requires { ⌜ at + length (now bytes) ≤ 18446744073709551615 ⌝ }
     ensures { λ r. ⌜ Wrote (now (out .entry)) at (now (bytes .entry)) (now (out .exit)) r ⌝ }
 {
     let end = fitting(bytes.len(), at, out.len());

@@ -18,10 +18,11 @@ same-length c = search needs
 
 returns : tie.Need-returns
 returns c v D =
+    let start : tie.Start = search needs in
     let colons = c .before .before in
-    let corners = colons .before .before .before .before in
-    let borders = corners .before .before .before .before in
-    let (_, (inside, _)) = borders .before .before .before .before .before .pre in
+    let corners : tie.After-draw-corners = search needs in
+    let borders : tie.After-draw-borders = search needs in
+    let (_, (inside, _)) = start .pre in
     pictured D inside (borders .draw-borders .ensures) (corners .draw-corners .ensures) (colons .draw-colons .ensures)
 
 pub draw-canvas-spec : {M : Type 1} → statement M

@@ -28,7 +28,7 @@ use Rattle.drawing.specs.RedrawCall.{DrawingArrays, drawingLent, drawingShort}
 use Rattle.drawing.proofs.GlyphRows.{canvasLines-length}
 use Rattle.writer.specs.Writing.{putDown}
 use Rattle.writer.proofs.WritingLaws.{putDown-over}
-use Rattle.cm.specs.Board.{Board, Ready}
+use Rattle.cm.specs.Board.{Board, CanvasReady}
 use Rattle.cm.specs.Counted.{lineLengths, drawnText, Counted}
 use Rattle.cm.specs.Late.{lateAnswer, lateSizes, lateArrays}
 use Rattle.cm.specs.declared.output.LineSizes.{LineSizes}
@@ -53,7 +53,7 @@ drawn-column : (o : ℕ) (v : Canvas) (line : Line) → List·Memᴰ line (canva
 unfolding canvasLines drawnLine
 drawn-column o v line m = let (y, i, e) = Memᴰ·of-map (drawnLine o v) (upTo (canvasHeight v)) m in sym (ap (λ (l : Line). l .column) e)
 
-module _ {v : Canvas} {n width : ℕ} {b : Board} {canvas : List ℕ} (R : Ready v n width b canvas) (origin height : ℕ) (tall : height ≡ canvasHeight v) (near : origin ≤ 255)
+module _ {v : Canvas} {n width : ℕ} {b : Board} {canvas : List ℕ} (R : CanvasReady v n width b canvas) (origin height : ℕ) (tall : height ≡ canvasHeight v) (near : origin ≤ 255)
     (sizes : LineSizes) (C : Counted (canvasLines origin v) sizes) (out : DrawingArrays) where
   abbrev lines : List Line
   lines = canvasLines origin v

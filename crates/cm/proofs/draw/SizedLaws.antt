@@ -19,7 +19,7 @@ use Rattle.drawing.specs.Redraw.{drawnTooLarge}
 use Rattle.drawing.specs.RedrawCall.{DrawingArrays}
 use Rattle.drawing.proofs.GlyphRows.{canvasLines-length}
 use Rattle.canvas.specs.Picture.{Pictured}
-use Rattle.cm.specs.Board.{Board, Ready}
+use Rattle.cm.specs.Board.{Board, CanvasReady}
 use Rattle.cm.specs.Late.{lateAnswer, lateSizes, lateArrays}
 use Rattle.cm.specs.Sketch.{Plan, Planned, Sketched, Texted}
 
@@ -70,7 +70,7 @@ module _ {p : Plan} (P : Planned p) (small : leb 128 (right p) || leb 128 (botto
     frames-asked = (right-small, bottom-small, room .1, room .2)
 
     pub sized-ready : {v : Canvas} {b : Board} {canvas : List ℕ} → Sketched v p → Texted v (b .text) (b .starts) (b .ends) (b .firsts) (b .heights)
-        → length (b .rects) ≡ rectsRoom → length canvas ≡ slots → Pictured v (p .n) (b .rects) canvas → Ready v (p .n) (right p + 1) b canvas
+        → length (b .rects) ≡ rectsRoom → length canvas ≡ slots → Pictured v (p .n) (b .rects) canvas → CanvasReady v (p .n) (right p + 1) b canvas
     sized-ready S T rects-kept canvas-kept pictured =
         record {
           boxed = record {

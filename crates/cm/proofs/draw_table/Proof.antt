@@ -11,24 +11,34 @@ use Rattle.cm.proofs.draw_table.Tie as tie
 
 -- the function's start and the measured table, from where the sections are counted
 abbrev begun : tie.After-count-sections → tie.Start
-begun c = c .before .before .before .before .before .before .before .before .before .before .before .before .before .before .before .before .before .before .before .before .before .before .before .before .before .before .before .before .before .before .before .before
+begun c = search needs
 
 abbrev measured : tie.After-count-sections → tie.After-measure-table
-measured c = c .before .before .before .before .before .before .before .before .before .before .before
+measured c = search needs
 
 -- and those places from where the table is drawn
 abbrev counted : tie.After-draw-sized-arg9 → tie.After-count-sections
-counted c = c .before .before .before .before .before .before .before .before .before .before .before .before .before .before .before .before .before
+counted c = search needs
 
 abbrev passed : tie.After-draw-sized-arg9 → tie.Else1
-passed c = c .before .before .before .before .before .before .before .before .before .before .before .before .before .before .before .before
+passed c = search needs
 
 abbrev cornered : tie.After-draw-sized-arg9 → tie.After-corners-on
-cornered c = c .before .before .before .before .before .before .before .before .before .before .before .before .before .before .before
+cornered c = search needs
+
+abbrev fitting : tie.After-draw-sized-arg9 → tie.After-misaligned
+fitting c = search needs
+
+abbrev told : tie.After-draw-sized-arg9 → tie.After-enum-told
+told c = search needs
+
+-- and that place from the end
+abbrev drawn : tie.After-slice-known20 → tie.After-draw-sized
+drawn c = search needs
 
 measure-table-requires : tie.Need-measure-table-requires
 measure-table-requires c κs =
-    let S = c .before .before .before .before .before .before .before .before .before .before .before .before .before .before .before .before .before .before .before .before in
+    let S : tie.Start = search needs in
     ((_, S .pre .0), ((S .pre .1 .0 .0, S .pre .1 .0 .1), (S .pre .1 .0 .2, S .pre .1 .0 .3, S .pre .1 .1 .0)))
 
 count-sections-requires : tie.Need-count-sections-requires
@@ -78,8 +88,10 @@ same-length-10 c = search needs
 
 returns-2 : tie.Need-returns-2
 returns-2 c =
-    let x = c .before .before .before .before .before .before in
-    corner-refused (begun x .pre .0) (x .count-sections .ensures) _ (c .before .before .before .before .before .if1 .left) (c .before .before .before .before .corners-on .ensures) _ (c .before .before .before .misaligned .ensures) _ (c .before .k .given .1)
+    let x : tie.After-count-sections = search needs in
+    let headed : tie.Else1 = search needs in
+    let marked : tie.After-corners-on = search needs in
+    corner-refused (begun x .pre .0) (x .count-sections .ensures) _ (headed .if1 .left) (marked .corners-on .ensures) _ (c .before .before .before .misaligned .ensures) _ (c .before .k .given .1)
 
 enum-told : tie.Need-enum-told
 enum-told c = search needs
@@ -88,30 +100,30 @@ draw-sized-requires : tie.Need-draw-sized-requires
 draw-sized-requires c κs =
     let x = counted c in
     let S = begun x .pre in
-    let told = x .count-sections .ensures in
+    let sections = x .count-sections .ensures in
     let M = measured x .measure-table .ensures in
     let C = cornered c .corners-on .ensures in (
-      table-planned (S .0) M told C,
+      table-planned (S .0) M sections C,
       (
         (origin-low (S .0), S .1 .1 .1, S .1 .1 .2),
-        (_, table-sketched (S .0) M told C (table-headed (S .0) told (drawingLent [] [] []) (passed c .if1 .left)), table-texted (S .0) M told),
+        (_, table-sketched (S .0) M sections C (table-headed (S .0) sections (drawingLent [] [] []) (passed c .if1 .left)), table-texted (S .0) M sections),
       ),
     )
 
 same-length-11 : tie.Need-same-length-11
-same-length-11 c = search (measured (counted (c .before .before .before .before .before .before .before .before .before .before .before)) .measure-table .kept)
+same-length-11 c = search (measured (counted (drawn c .before)) .measure-table .kept)
 
 same-length-12 : tie.Need-same-length-12
-same-length-12 c = search (measured (counted (c .before .before .before .before .before .before .before .before .before .before .before)) .measure-table .kept)
+same-length-12 c = search (measured (counted (drawn c .before)) .measure-table .kept)
 
 same-length-13 : tie.Need-same-length-13
-same-length-13 c = search (measured (counted (c .before .before .before .before .before .before .before .before .before .before .before)) .measure-table .kept)
+same-length-13 c = search (measured (counted (drawn c .before)) .measure-table .kept)
 
 same-length-14 : tie.Need-same-length-14
-same-length-14 c = search (measured (counted (c .before .before .before .before .before .before .before .before .before .before .before)) .measure-table .kept)
+same-length-14 c = search (measured (counted (drawn c .before)) .measure-table .kept)
 
 same-length-15 : tie.Need-same-length-15
-same-length-15 c = search (measured (counted (c .before .before .before .before .before .before .before .before .before .before .before)) .measure-table .kept)
+same-length-15 c = search (measured (counted (drawn c .before)) .measure-table .kept)
 
 same-length-16 : tie.Need-same-length-16
 same-length-16 c = search needs
@@ -130,15 +142,15 @@ same-length-20 c = search needs
 
 returns-3 : tie.Need-returns-3
 returns-3 c =
-    let y = c .before .before .before .before .before .before .before .before .before .before .before in
+    let y = drawn c .before in
     let x = counted y in
     let S = begun x .pre in
-    let told = x .count-sections .ensures in
+    let sections = x .count-sections .ensures in
     let M = measured x .measure-table .ensures in
     let C = cornered y .corners-on .ensures in
-    let headed = table-headed (S .0) told (drawingLent [] [] []) (passed y .if1 .left) in
-    late-same (S .0) told _ (passed y .if1 .left) C _ (y .before .before .before .before .before .before .before .before .before .before .before .before .before .before .misaligned .ensures) (y .before .before .before .before .before .before .before .before .before .before .before .before .enum-told .given .1) _ _
-    (c .before .before .before .before .before .before .before .before .before .before .draw-sized .ensures _ (table-sketched (S .0) M told C headed) (table-texted (S .0) M told))
+    let headed = table-headed (S .0) sections (drawingLent [] [] []) (passed y .if1 .left) in
+    late-same (S .0) sections _ (passed y .if1 .left) C _ (fitting y .misaligned .ensures) (told y .enum-told .given .1) _ _
+    (drawn c .draw-sized .ensures _ (table-sketched (S .0) M sections C headed) (table-texted (S .0) M sections))
 
 pub draw-table-spec : {M : Type 1} → statement M
 draw-table-spec =

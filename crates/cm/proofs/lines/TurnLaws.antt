@@ -12,17 +12,17 @@ use Rattle.drawing.proofs.RowLaws.{edgeByte-single, flat, flat-zero, drawnLine-
 use Rattle.representation.specs.Arrays.{rectIn}
 use Rattle.writer.specs.Writing.{Wrote}
 use Rattle.writer.proofs.WritingLaws.{wrote-none, wrote-as}
-use Rattle.cm.specs.Board.{Board, noBox, Boxed, Inner, Ready}
+use Rattle.cm.specs.Board.{Board, noBox, Boxed, Inner, CanvasReady}
 use Rattle.cm.proofs.lines.WalkLineLaws.{Stop, atEnd, onBorder, onCell, Reached, box-frame, box-mem, code-border, reached-border, reached-cell}
 
 -- what a line's function asks of its arguments
 abbrev pub Asked : ℕ → ℕ → Board → List ℕ → ℕ → ℕ → ℕ → Type 0
-Asked n width b canvas origin y at = (v : Canvas) × Ready v n width b canvas × (y < canvasHeight v) × (origin ≤ 255) × (at ≤ 1073741824)
+Asked n width b canvas origin y at = (v : Canvas) × CanvasReady v n width b canvas × (y < canvasHeight v) × (origin ≤ 255) × (at ≤ 1073741824)
 
 -- what the walk has come to, on every canvas that the arrays hold
 abbrev pub Walked : ℕ → ℕ → Board → List ℕ → ℕ → ℕ → ℕ → List ℕ → ℕ → List ℕ → ℕ → Type 0
 Walked n width b canvas origin y x before at after end =
-    (v : Canvas) → Ready v n width b canvas → y < canvasHeight v → Reached v n (b .rects) origin y x before at after end
+    (v : Canvas) → CanvasReady v n width b canvas → y < canvasHeight v → Reached v n (b .rects) origin y x before at after end
 
 pub walk-starts : (n width : ℕ) (b : Board) (canvas : List ℕ) (origin y : ℕ) (before : List ℕ) (at : ℕ) → Walked n width b canvas origin y 0 before at before at
 walk-starts n width b canvas origin y before at v R low =
@@ -33,7 +33,7 @@ module _ {n width : ℕ} {b : Board} {canvas : List ℕ} {origin y at x end : �
   pub walk-total : end ≤ at + 641 * x → end ≤ at + 131072
   walk-total few = omega (arith, I (G .0) (G .1) (G .2) .inside, G .1 .boxed .narrow)
 
-  pub walk-ends : width ≤ x → (v : Canvas) → Ready v n width b canvas → y < canvasHeight v → Wrote before at (drawnLine origin v y .text) after end
+  pub walk-ends : width ≤ x → (v : Canvas) → CanvasReady v n width b canvas → y < canvasHeight v → Wrote before at (drawnLine origin v y .text) after end
   walk-ends h v R low =
       let e : x ≡ canvasWidth v = omega (arith, I v R low .inside, R .wide) in
       wrote-as (I v R low .wrote) (ap (flat origin v y 0) e ∙ sym (drawnLine-text origin v y))
@@ -44,7 +44,7 @@ module _ {n width : ℕ} {b : Board} {canvas : List ℕ} {origin y at x end : �
 
   module _ (u : x < width) where
     module _ (code : ℕ) (is : code ≡ getD canvas (y * 128 + x) 0) where
-      module _ (v : Canvas) (R : Ready v n width b canvas) (low : y < canvasHeight v) where
+      module _ (v : Canvas) (R : CanvasReady v n width b canvas) (low : y < canvasHeight v) where
         near : x < canvasWidth v
         near = omega (arith, R .wide)
 
@@ -74,7 +74,7 @@ module _ {n width : ℕ} {b : Board} {canvas : List ℕ} {origin y at x end : �
           reached-border R origin y x low (I v R low) (near v R low) e code (is ∙ code-border R origin y x low (near v R low) e) after′ end′ w
 
       module _ (h : 256 ≤ code) where
-        large : (v : Canvas) (R : Ready v n width b canvas) (low : y < canvasHeight v) → Large (code - 256)
+        large : (v : Canvas) (R : CanvasReady v n width b canvas) (low : y < canvasHeight v) → Large (code - 256)
         large v R low = large-code v R low h
 
         pub inner-asked : end ≤ at + 641 * x

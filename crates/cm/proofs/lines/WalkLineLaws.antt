@@ -21,7 +21,7 @@ use Rattle.representation.specs.Arrays.{rectIn}
 use Rattle.canvas.specs.Picture.{Pictured}
 use Rattle.writer.specs.Writing.{Wrote}
 use Rattle.writer.proofs.WritingLaws.{wrote-then, wrote-as}
-use Rattle.cm.specs.Board.{Board, noBox, Boxed, Inner, Ready}
+use Rattle.cm.specs.Board.{Board, noBox, Boxed, Inner, CanvasReady}
 
 -- where the walk stands: past the end, on a border, or at a cell's first inner column
 pub data Stop (v : Canvas) (n : ℕ) (rects : List ℕ) (y x : ℕ) : Type 0 where
@@ -51,7 +51,7 @@ module _ {v : Canvas} {n : ℕ} {b : Board} (B : Boxed v n b) where
   box-mem k u = getD-mem (v .boxes) k noBox (omega (arith, boxes-count))
 
 -- ---- one turn of the walk
-module _ {v : Canvas} {n width : ℕ} {b : Board} {canvas : List ℕ} (R : Ready v n width b canvas) where
+module _ {v : Canvas} {n width : ℕ} {b : Board} {canvas : List ℕ} (R : CanvasReady v n width b canvas) where
   B : Boxed v n b
   B = R .boxed
 

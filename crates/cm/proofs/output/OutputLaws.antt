@@ -15,7 +15,7 @@ use Rattle.grid.specs.Values.{Line}
 use Rattle.drawing.specs.Plain.{Canvas, canvasHeight, drawnLine, canvasLines}
 use Rattle.writer.specs.Writing.{Wrote, putDown}
 use Rattle.writer.proofs.WritingLaws.{wrote-none, wrote-then, wrote-as}
-use Rattle.cm.specs.Board.{Board, Ready}
+use Rattle.cm.specs.Board.{Board, CanvasReady}
 use Rattle.cm.specs.Counted.{lineLengths, drawnText, Counted}
 
 -- the first y lines of a drawing
@@ -33,13 +33,13 @@ firstLines-all o v y e = ap (firstLines o v) e
 
 -- what a call asks of its arguments
 abbrev Asked : ℕ → ℕ → Board → List ℕ → ℕ → ℕ → Type 0
-Asked n width b canvas origin height = (v : Canvas) × Ready v n width b canvas × (height ≡ canvasHeight v) × (origin ≤ 255)
+Asked n width b canvas origin height = (v : Canvas) × CanvasReady v n width b canvas × (height ≡ canvasHeight v) × (origin ≤ 255)
 
 module _ {n width : ℕ} {b : Board} {canvas : List ℕ} {origin height : ℕ} (G : Asked n width b canvas origin height) where
   pub height-low : height ≤ 128
   height-low = omega (arith, G .2, G .1 .boxed .low)
 
-  pub line-asked : (y at : ℕ) → y < height → at ≤ 1073741824 → (v : Canvas) × Ready v n width b canvas × (y < canvasHeight v) × (origin ≤ 255) × (at ≤ 1073741824)
+  pub line-asked : (y at : ℕ) → y < height → at ≤ 1073741824 → (v : Canvas) × CanvasReady v n width b canvas × (y < canvasHeight v) × (origin ≤ 255) × (at ≤ 1073741824)
   line-asked y at u w = (G .0, G .1, omega (arith, G .2), G .3, w)
 
 -- ---- counted
@@ -50,7 +50,7 @@ pub record CountedTo (o : ℕ) (v : Canvas) (y : ℕ) (lengths : List ℕ) (byte
 -- on every canvas that the arrays hold
 abbrev pub Counting : ℕ → ℕ → Board → List ℕ → ℕ → ℕ → ℕ → List ℕ → ℕ → Type 0
 Counting n width b canvas o height y lengths bytes =
-    (v : Canvas) → Ready v n width b canvas → height ≡ canvasHeight v → CountedTo o v y lengths bytes
+    (v : Canvas) → CanvasReady v n width b canvas → height ≡ canvasHeight v → CountedTo o v y lengths bytes
 
 module _ {n width : ℕ} {b : Board} {canvas : List ℕ} {o height : ℕ} where
   pub counted-none : (lengths : List ℕ) → Counting n width b canvas o height 0 lengths 0
@@ -59,7 +59,7 @@ module _ {n width : ℕ} {b : Board} {canvas : List ℕ} {o height : ℕ} where
 
   module _ {y bytes : ℕ} {lengths : List ℕ} (so-far : Counting n width b canvas o height y lengths bytes) where
     pub counted-next : (end : ℕ) (none after : List ℕ) → y < height → y < length lengths
-        → ((v : Canvas) → Ready v n width b canvas → y < canvasHeight v → Wrote none 0 (drawnLine o v y .text) after end)
+        → ((v : Canvas) → CanvasReady v n width b canvas → y < canvasHeight v → Wrote none 0 (drawnLine o v y .text) after end)
         → Counting n width b canvas o height (y + 1) (set lengths y end) (bytes + end)
     unfolding sum
     counted-next end none after u w wrote v R h =
@@ -74,7 +74,7 @@ module _ {n width : ℕ} {b : Board} {canvas : List ℕ} {o height : ℕ} where
         }
 
     pub counted-all : y ≤ height → height ≤ y → length lengths ≡ 128
-        → (v : Canvas) → Ready v n width b canvas → height ≡ canvasHeight v → Counted (canvasLines o v) (record { lengths = lengths; bytes = bytes })
+        → (v : Canvas) → CanvasReady v n width b canvas → height ≡ canvasHeight v → Counted (canvasLines o v) (record { lengths = lengths; bytes = bytes })
     counted-all u w room v R h =
         let s = so-far v R h in
         let all = firstLines-all o v y (omega arith) in
@@ -84,7 +84,7 @@ module _ {n width : ℕ} {b : Board} {canvas : List ℕ} {o height : ℕ} where
 -- ---- written
 abbrev pub Writing : ℕ → ℕ → Board → List ℕ → ℕ → ℕ → ℕ → List ℕ → List ℕ → ℕ → Type 0
 Writing n width b canvas o height y before after at =
-    (v : Canvas) → Ready v n width b canvas → height ≡ canvasHeight v → Wrote before 0 (drawnText (firstLines o v y)) after at
+    (v : Canvas) → CanvasReady v n width b canvas → height ≡ canvasHeight v → Wrote before 0 (drawnText (firstLines o v y)) after at
 
 module _ {n width : ℕ} {b : Board} {canvas : List ℕ} (o : ℕ) {height : ℕ} where
   pub written-none : (before : List ℕ) → Writing n width b canvas o height 0 before before 0
@@ -93,7 +93,7 @@ module _ {n width : ℕ} {b : Board} {canvas : List ℕ} (o : ℕ) {height : ℕ
 
   module _ (y : ℕ) {at : ℕ} {before after : List ℕ} (so-far : Writing n width b canvas o height y before after at) where
     pub written-next : (after′ : List ℕ) (at′ : ℕ) → y < height
-        → ((v : Canvas) → Ready v n width b canvas → y < canvasHeight v → Wrote after at (drawnLine o v y .text) after′ at′)
+        → ((v : Canvas) → CanvasReady v n width b canvas → y < canvasHeight v → Wrote after at (drawnLine o v y .text) after′ at′)
         → Writing n width b canvas o height (y + 1) before after′ at′
     unfolding flatMap
     written-next after′ at′ u wrote v R h =
@@ -104,5 +104,5 @@ module _ {n width : ℕ} {b : Board} {canvas : List ℕ} (o : ℕ) {height : ℕ
         wrote-as (wrote-then (so-far v R h) (wrote v R (omega arith))) (sym more)
 
     pub written-all : y ≤ height → height ≤ y
-        → (v : Canvas) → Ready v n width b canvas → height ≡ canvasHeight v → after ≡ putDown before 0 (drawnText (canvasLines o v))
+        → (v : Canvas) → CanvasReady v n width b canvas → height ≡ canvasHeight v → after ≡ putDown before 0 (drawnText (canvasLines o v))
     written-all u w v R h = so-far v R h .bytes ∙ ap (λ (l : List Line). putDown before 0 (drawnText l)) (firstLines-all o v y (omega arith))

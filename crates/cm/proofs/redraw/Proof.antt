@@ -6,14 +6,13 @@ use Rattle.cm.proofs.redraw.Tie as tie
 
 -- where the table is checked, from where it is drawn; and the call of draw_table, from its end
 abbrev checked : tie.After-draw-table-arg10 → tie.After-check-table
-checked c = c .before .before .before .before .before .before .before .before .before .before .before .before
+checked c = search needs
 
 abbrev told : tie.After-draw-table-arg10 → tie.After-enum-told
-told c = c .before .before .before .before .before .before .before .before .before .before
+told c = search needs
 
 abbrev called : tie.After-slice-known20 → tie.After-draw-table
-called c =
-    c .before .before .before .before .before .before .before .before .before .before .before .before .before .before .before .before .before .before .before .before
+called c = search needs
 
 space-short-requires : tie.Need-space-short-requires
 space-short-requires c κs = search needs

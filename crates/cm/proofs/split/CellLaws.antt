@@ -13,7 +13,7 @@ use Rattle.grid.proofs.RectangleLaws.{rect}
 use Rattle.representation.specs.Arrays.{rectIn}
 use Rattle.drawing.specs.Plain.{Box, Canvas, canvasLines}
 use Rattle.drawing.specs.Redraw.{splits}
-use Rattle.cm.specs.Board.{Board, noBox, linesAt, Lettered, Ready}
+use Rattle.cm.specs.Board.{Board, noBox, linesAt, Lettered, CanvasReady}
 use Rattle.cm.specs.Hits.{Hittable, HitLines, splitColumn}
 use Rattle.cm.proofs.lines.WalkLineLaws.{boxes-count, box-frame, box-mem}
 use Rattle.cm.proofs.split.HitLinesLaws.{zeros-at}
@@ -21,7 +21,7 @@ use Rattle.cm.proofs.split.SplitLaws.{splits-hit, splits-short, splits-
 
 -- what the function asks of its arguments
 abbrev Asked : ℕ → ℕ → Board → List ℕ → ℕ → ℕ → Type 0
-Asked n width b canvas k origin = (v : Canvas) × Ready v n width b canvas × (k < n) × (origin ≤ 255)
+Asked n width b canvas k origin = (v : Canvas) × CanvasReady v n width b canvas × (k < n) × (origin ≤ 255)
 
 module _ {n width : ℕ} {b : Board} {canvas : List ℕ} {k origin : ℕ} (G : Asked n width b canvas k origin) where
   pub height-room : k < length (b .heights)
@@ -32,7 +32,7 @@ module _ {n width : ℕ} {b : Board} {canvas : List ℕ} {k origin : ℕ} (G : A
     rect-is : rect top left bottom right ≡ rectIn (b .rects) k
     rect-is = rw (top-is, left-is, bottom-is, right-is) refl
 
-    module _ (v : Canvas) (R : Ready v n width b canvas) where
+    module _ (v : Canvas) (R : CanvasReady v n width b canvas) where
       frame : getD (v .boxes) k noBox .frame ≡ rect top left bottom right
       frame = box-frame (R .boxed) k (G .2) ∙ sym rect-is
 
@@ -73,7 +73,7 @@ module _ {n width : ℕ} {b : Board} {canvas : List ℕ} {k origin : ℕ} (G : A
         → length hits ≡ 128
     hits-room hits told = told (G .0 .boxes) (G .1 .boxed .lettered) (omega (arith, boxes-count (G .1 .boxed), G .2)) .room
 
-    module _ (v : Canvas) (R : Ready v n width b canvas) where
+    module _ (v : Canvas) (R : CanvasReady v n width b canvas) where
       pub cell-short : (h : ℕ) → h ≡ getD (b .heights) k 0 → h < bottom - top - 1 → false ≡ splits (gridOf (canvasLines origin v)) (rectIn (b .rects) k)
       cell-short h is w =
           let tall = R .boxed .lettered .tall k (omega (arith, boxes-count (R .boxed), G .2)) in

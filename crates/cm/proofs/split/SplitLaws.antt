@@ -29,12 +29,12 @@ use Rattle.drawing.proofs.BoxLaws.{Tiled, Sized, End, border, box-horizontalAt,
 use Rattle.drawing.proofs.RowLaws.{edgeByte}
 use Rattle.drawing.proofs.GlyphRows.{slotAt-border, glyphAt-gap, ruleAt}
 use Rattle.drawing.proofs.TextSlots.{vertical-text}
-use Rattle.cm.specs.Board.{Board, noBox, Boxed, Ready}
+use Rattle.cm.specs.Board.{Board, noBox, Boxed, CanvasReady}
 use Rattle.cm.specs.Hits.{showsAt, Hittable, HitLines, splitColumn}
 use Rattle.cm.proofs.lines.WalkLineLaws.{box-mem, code-border}
 use Rattle.cm.proofs.split.ColumnLaws.{splitTest}
 
-module _ {v : Canvas} {n width : ℕ} {b : Board} {canvas : List ℕ} (R : Ready v n width b canvas) (origin k : ℕ) (u : k < n) where
+module _ {v : Canvas} {n width : ℕ} {b : Board} {canvas : List ℕ} (R : CanvasReady v n width b canvas) (origin k : ℕ) (u : k < n) where
   abbrev g : Grid
   g = gridOf (canvasLines origin v)
 

@@ -77,9 +77,6 @@ module _ {cols cells inner : List ℕ} {k from : ℕ} (G : CellGiven cols cells 
 
 -- the inner bytes are few
 module _ {cols cells inner : List ℕ} {k from : ℕ} (G : CellGiven cols cells inner k from) where
-  pub inner-short : length (take (from + getD cells (5 * k + 4) 0 - from) (drop from inner)) ≤ 65536
-  inner-short = omega (arith, G .small, length-take (from + getD cells (5 * k + 4) 0 - from) (drop from inner), length-drop from inner)
-
   module _ {f g : List ℕ} (at : ℕ) {opened tagged end : ℕ} (a : opened ≤ at + 4) (b : tagged ≤ opened + 100)
       (p : Wrote f tagged (take (from + getD cells (5 * k + 4) 0 - from) (drop from inner)) g end) where
     inner-near : end ≤ at + 32872

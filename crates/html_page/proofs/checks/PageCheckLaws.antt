@@ -22,7 +22,7 @@ use Rattle.html.specs.PageCall.{PageSizes, PageArrays, pageContradicts, pageTab
 use Rattle.representation.specs.TableIn.{countsIn, noCell}
 use Rattle.representation.proofs.TableInLaws.{columns-length, cells-length, cells-at}
 use Rattle.table_checks.specs.Entries.{entries}
-use Rattle.table_checks.specs.Places.{placesOf, gridIn, Placed}
+use Rattle.table_checks.specs.Places.{placesOf, gridIn, CellsPlaced}
 use Rattle.table_checks.specs.Checks.{afterChecks}
 use Rattle.table_checks.specs.declared.Checked.{Checked}
 use Rattle.table_checks.specs.declared.Checked.the-variants.{Fine, Refused}
@@ -177,7 +177,7 @@ module _ (s : PageSizes) (t : PageArrays) where
                   ltb-false 32768 (s .bytes) bytes,
                 )
 
-            pub placed : Placed (s .columns) (s .cells) (t .sections) (t .cells)
+            pub placed : CellsPlaced (s .columns) (s .cells) (t .sections) (t .cells)
             placed = record { cellsRoom = all-agreed .cellsRoom; narrow = limits .0; low = limits .1; codes = all-agreed .sectionCodes }
 
             module _ {k : Bool} (k-told : k ≡ keepsRules grid) where

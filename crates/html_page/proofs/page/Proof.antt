@@ -24,7 +24,7 @@ same-length c = search needs
 
 returns-2 : tie.Need-returns-2
 returns-2 c =
-    let e = c .before .before .before .before in
+    let e : tie.After-enum-told = search needs in
     let checked = e .before .before .check-page .ensures in
     page-done _ _ _ _ (checked .0) (e .enum-told .given .1) (checked .1 (e .enum-told .given .1)) (c .before .before .write-page .ensures)
 

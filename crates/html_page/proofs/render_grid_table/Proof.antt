@@ -8,16 +8,16 @@ use Rattle.html_page.proofs.render_grid_table.Tie as tie
 
 -- the calls before each, and the function's start
 abbrev rows-done : tie.After-copy2 → tie.After-render-rows
-rows-done c = c .before .before .before .before .before
+rows-done c = search needs
 
 abbrev group-done : tie.After-render-rows → tie.After-render-colgroup
-group-done c = c .before .before .before .before
+group-done c = search needs
 
 abbrev open-done : tie.After-render-colgroup → tie.After-copy
-open-done c = c .before .before .before .before
+open-done c = search needs
 
 abbrev begun : tie.After-render-colgroup → tie.Start
-begun c = open-done c .before .before .before .before .before .before .before .before
+begun c = search needs
 
 slice-aggregate-copy : tie.Need-slice-aggregate-copy
 slice-aggregate-copy c = search needs

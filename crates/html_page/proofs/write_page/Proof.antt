@@ -21,7 +21,7 @@ same-length c = search needs
 
 returns-2 : tie.Need-returns-2
 returns-2 c =
-    let past = c .before .before .before .before in
+    let past : tie.Else1 = search needs in
     page-room _ _ (past .before .before .render-grid-table .ensures) _ (past .if1 .left) (c .before .before .render-grid-table2 .ensures)
 
 pub write-page-spec : {M : Type 1} → statement M

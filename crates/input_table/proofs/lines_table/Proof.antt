@@ -4,6 +4,10 @@ use borrow.Author.Needs.{needs}
 use Rattle.input_table.proofs.lines_table.Statement.{statement}
 use Rattle.input_table.proofs.lines_table.Tie as tie
 
+-- the function's start, from where the table is read
+abbrev begun : tie.After-table → tie.Start
+begun c = search needs
+
 sub-table : tie.Need-sub-table
 sub-table c = search needs
 
@@ -54,8 +58,9 @@ same-length-5 c = search needs
 
 returns : tie.Need-returns
 returns c =
-    let start = c .before .before .before .before .before .before .before .before .before .before .before .before .before .before .before .before .before .before .before .before .before .before .before .before .before .before .before .before .before .before .before .before .before .before .before .before .before .before .before in
-    let call = c .before .before .before .before .before .before .before .before .before .before .before .before .before .before .before .before .before .table in
+    let read : tie.After-table = search needs in
+    let start = begun read in
+    let call = read .table in
     let given = start .args in
     lines-told (given .lengths .now) (given .text .now) (given .cols .now) (given .sections .now) (given .cells .now) (given .kept-lengths .now) (given .kept-text .now) _ (call .result) (start .pre .0) (start .pre .1 .0) (start .pre .1 .1) (call .ensures)
 

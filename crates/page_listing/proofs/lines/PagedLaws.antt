@@ -53,9 +53,9 @@ record Agreed (s : TableSizes) (t : TableArrays) : Type 0 where
   pub alignments : all (λ code. ltb code 4) (everyNth 2 (s .columns) (t .columns)) ≡ true
   pub codes : all (λ code. ltb code 3) (t .sections) ≡ true
 
-agreed : (s : TableSizes) (t : TableArrays) → tableContradicts s t ≡ false → Agreed s t
+tableContradicts-agreed : (s : TableSizes) (t : TableArrays) → tableContradicts s t ≡ false → Agreed s t
 unfolding tableContradicts
-agreed s t e =
+tableContradicts-agreed s t e =
     let p₃ = lengthIs (t .columns) (2 * s .columns) && lengthIs (t .sections) (s .rows) && lengthIs (t .cells) (5 * s .cells) in
     let p₄ = lengthIs (t .lengths) (s .lines) in
     let p₅ = lengthIs (t .text) (s .bytes) in
@@ -141,7 +141,7 @@ module _ (s : TableSizes) (t : TableArrays) (agree : tableContradicts s t ≡ fa
   cs = cellsOfArray (s .cells) (t .cells) (splitText (t .lengths) (t .text))
 
   facts : Agreed s t
-  facts = agreed s t agree
+  facts = tableContradicts-agreed s t agree
 
   pub cells-asked : (length (t .cells) ≡ 5 * s .cells) × (sum (countsIn (s .cells) (t .cells)) ≡ length (t .lengths)) × (sum (t .lengths) ≡ length (t .text))
       × (length (t .lengths) ≡ s .lines) × (length (t .text) ≡ s .bytes)

@@ -70,8 +70,8 @@ flat-whole : (ls : List Line) → sum (flatDrawing ls .lengths) ≡ length (flat
 unfolding flatDrawing
 flat-whole ls = sym (joinText-length ls)
 
-first : (n : ℕ) (l : List ℕ) → take (n - 0) l ≡ take n l
-first n l = let same : n - 0 ≡ n = omega arith in rw same
+take-less-none : (n : ℕ) (l : List ℕ) → take (n - 0) l ≡ take n l
+take-less-none n l = let same : n - 0 ≡ n = omega arith in rw same
 
 module _ (s : TableSizes) (t : TableArrays) (agree : tableContradicts s t ≡ false) (outLengths outText : List ℕ)
     (rooms : (length outLengths ≡ 128) × (length outText ≡ 32768)) where
@@ -104,8 +104,8 @@ module _ (s : TableSizes) (t : TableArrays) (agree : tableContradicts s t ≡ fa
   drawn-told n r after f =
       let ls = r .lines in
       let taken : drawingTaken n after ≡ flatDrawing ls = ap (drawingTaken n) f ∙ redrawn-taken freshRedraw 0 s t lentDrawing r in
-      let lengths : take (n .lines - 0) (after .lengths) ≡ flatDrawing ls .lengths = first (n .lines) (after .lengths) ∙ ap (λ (d : FlatDrawing). d .lengths) taken in
-      let text : take (n .bytes - 0) (after .text) ≡ flatDrawing ls .text = first (n .bytes) (after .text) ∙ ap (λ (d : FlatDrawing). d .text) taken in
+      let lengths : take (n .lines - 0) (after .lengths) ≡ flatDrawing ls .lengths = take-less-none (n .lines) (after .lengths) ∙ ap (λ (d : FlatDrawing). d .lengths) taken in
+      let text : take (n .bytes - 0) (after .text) ≡ flatDrawing ls .text = take-less-none (n .bytes) (after .text) ∙ ap (λ (d : FlatDrawing). d .text) taken in
       let (lines, bytes) = drawn-few ls (r .drawing) in
       let as-lines = ap (λ (n : DrawingSizes). n .lines) (r .sizes) in
       let as-bytes = ap (λ (n : DrawingSizes). n .bytes) (r .sizes) in

@@ -9,20 +9,20 @@ use Rattle.redrawing.proofs.redraw_sheet.Tie as tie
 
 -- where the table call has returned, from its refusal and from the redraw call; and that call, from its end
 abbrev refused : tie.After-known-told → tie.After-table
-refused c = c .before .before .before .before .before .before .before .before .before .before .before .before .before .before .before .before .before .before .before .before .before .before .before .before .before .before .before
+refused c = search needs
 
 abbrev accepted : tie.After-redraw-taken-arg15 → tie.After-table
-accepted c = c .before .before .before .before .before .before .before .before .before .before .before .before .before .before .before .before .before .before .before .before .before .before .before .before .before .before .before .before .before .before .before .before .before .before .before .before .before .before .before .before .before .before
+accepted c = search needs
 
 abbrev told : tie.After-redraw-taken-arg15 → tie.After-across
-told c = c .before .before .before .before .before .before .before .before .before .before .before .before .before .before .before .before
+told c = search needs
 
 abbrev called : tie.After-slice-known44 → tie.After-redraw-taken
-called c = c .before .before .before .before .before .before .before .before .before .before .before .before .before .before .before .before .before .before .before .before
+called c = search needs
 
 -- the test of the space, from the table call
 abbrev tested : tie.After-table → tie.Else1
-tested c = c .before .before .before .before .before .before .before .before .before .before .before .before .before
+tested c = search needs
 
 space-short-requires : tie.Need-space-short-requires
 space-short-requires c κs = search needs

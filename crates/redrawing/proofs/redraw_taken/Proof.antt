@@ -63,7 +63,7 @@ redraw-step-requires c κs = search needs
 
 -- where the redraw call has returned
 abbrev called : tie.After-redraw-step → tie.After-redraw
-called c = c .before .before .before .before .before .before .before .before .before .before .before .before .before .before .before .before .before .before .before .before .before
+called c = search needs
 
 same-length : tie.Need-same-length
 same-length c = search (called c .redraw .kept)

@@ -116,16 +116,24 @@ layout-requires : tie.Need-layout-requires
 layout-requires c κs = search needs
 
 slice-aggregate-print-answer : tie.Need-slice-aggregate-print-answer
-slice-aggregate-print-answer c = search (part-kept, c .before .before .before .before .cols2 .given)
+slice-aggregate-print-answer c =
+    let after-cols2 : tie.After-cols2 = search needs in
+    search (part-kept, after-cols2 .cols2 .given)
 
 slice-aggregate-print-answer-2 : tie.Need-slice-aggregate-print-answer-2
-slice-aggregate-print-answer-2 c = search (part-kept, c .before .before .before .before .rows2 .given)
+slice-aggregate-print-answer-2 c =
+    let after-rows2 : tie.After-rows2 = search needs in
+    search (part-kept, after-rows2 .rows2 .given)
 
 slice-aggregate-print-answer-3 : tie.Need-slice-aggregate-print-answer-3
-slice-aggregate-print-answer-3 c = search (part-kept, c .before .before .before .before .cells2 .given)
+slice-aggregate-print-answer-3 c =
+    let after-cells2 : tie.After-cells2 = search needs in
+    search (part-kept, after-cells2 .cells2 .given)
 
 slice-aggregate-print-answer-4 : tie.Need-slice-aggregate-print-answer-4
-slice-aggregate-print-answer-4 c = search (part-kept, c .before .before .before .before .ranges2 .given)
+slice-aggregate-print-answer-4 c =
+    let after-ranges2 : tie.After-ranges2 = search needs in
+    search (part-kept, after-ranges2 .ranges2 .given)
 
 print-answer-requires : tie.Need-print-answer-requires
 print-answer-requires c κs = search needs

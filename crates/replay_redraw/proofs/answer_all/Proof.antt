@@ -1,28 +1,23 @@
 -- `replay_redraw::answer_all` is safe and ends.
 use borrow.Author.Needs.{needs}
-use Prim.Native.Nat.{_-_, _≤_}
+use Prim.Native.Nat.{_≤_}
 use mathlib.Core.Path.{_≡_}
 use lib.ListN.{length}
 use Rattle.replay_redraw.proofs.answer_all.Statement.{statement}
 use Rattle.replay_redraw.proofs.answer_all.Tie as tie
 
 abbrev Inv-loop : tie.InvT-loop
-Inv-loop buffer₀ at₀ held₀ answered₀ buffer at held answered = (length buffer ≡ length buffer₀) × (at ≤ held) × (held ≤ length buffer)
+Inv-loop buffer₀ line₀ buffer line =
+    (length buffer ≡ length buffer₀) × (line .start ≤ line .end) × (line .end ≤ line .held) × (line .held ≤ length buffer)
 
 abbrev μ-loop : tie.MeasureT-loop
-μ-loop buffer₀ at₀ held₀ answered₀ buffer at held answered = 65536 - answered
+μ-loop buffer₀ line₀ buffer line = line .left
 
 loop-holds : tie.Need-loop-holds Inv-loop μ-loop
 loop-holds c = search needs
 
-next-line-requires : tie.Need-next-line-requires Inv-loop μ-loop
-next-line-requires c κs = search needs
-
-same-length : tie.Need-same-length Inv-loop μ-loop
-same-length c = search needs
-
-returns : tie.Need-returns Inv-loop μ-loop
-returns c = search needs
+first-line-requires : tie.Need-first-line-requires Inv-loop μ-loop
+first-line-requires c κs = search needs
 
 sub-answer-line : tie.Need-sub-answer-line Inv-loop μ-loop
 sub-answer-line c = search needs
@@ -36,11 +31,8 @@ part-answer-line-end c = search needs
 answer-line-requires : tie.Need-answer-line-requires Inv-loop μ-loop
 answer-line-requires c κs = search needs
 
-add-at : tie.Need-add-at Inv-loop μ-loop
-add-at c = search needs
-
-add-answered : tie.Need-add-answered Inv-loop μ-loop
-add-answered c = search needs
+next-line-requires : tie.Need-next-line-requires Inv-loop μ-loop
+next-line-requires c κs = search needs
 
 loop-less : tie.Need-loop-less Inv-loop μ-loop
 loop-less c = search needs
@@ -48,11 +40,11 @@ loop-less c = search needs
 loop-again : tie.Need-loop-again Inv-loop μ-loop
 loop-again c = search needs
 
-same-length-2 : tie.Need-same-length-2 Inv-loop μ-loop
-same-length-2 c = search needs
+same-length : tie.Need-same-length Inv-loop μ-loop
+same-length c = search needs
 
-returns-2 : tie.Need-returns-2 Inv-loop μ-loop
-returns-2 c = search needs
+returns : tie.Need-returns Inv-loop μ-loop
+returns c = search needs
 
 pub answer-all-spec : {M : Type 1} → statement M
 answer-all-spec =
@@ -60,17 +52,14 @@ answer-all-spec =
     (tie.spec
     Inv-loop
     μ-loop
+    first-line-requires
     loop-holds
-    next-line-requires
-    same-length
-    returns
     sub-answer-line
     part-answer-line-start
     part-answer-line-end
     answer-line-requires
-    add-at
-    add-answered
+    next-line-requires
     loop-less
     loop-again
-    same-length-2
-    returns-2)
+    same-length
+    returns)

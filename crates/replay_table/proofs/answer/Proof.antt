@@ -152,19 +152,29 @@ table-requires : tie.Need-table-requires
 table-requires c κs = search needs
 
 slice-aggregate-print-answer : tie.Need-slice-aggregate-print-answer
-slice-aggregate-print-answer c = search (part-kept, c .before .before .before .before .before .cols2 .given)
+slice-aggregate-print-answer c =
+    let after-cols2 : tie.After-cols2 = search needs in
+    search (part-kept, after-cols2 .cols2 .given)
 
 slice-aggregate-print-answer-2 : tie.Need-slice-aggregate-print-answer-2
-slice-aggregate-print-answer-2 c = search (part-kept, c .before .before .before .before .before .sections2 .given)
+slice-aggregate-print-answer-2 c =
+    let after-sections2 : tie.After-sections2 = search needs in
+    search (part-kept, after-sections2 .sections2 .given)
 
 slice-aggregate-print-answer-3 : tie.Need-slice-aggregate-print-answer-3
-slice-aggregate-print-answer-3 c = search (part-kept, c .before .before .before .before .before .cells2 .given)
+slice-aggregate-print-answer-3 c =
+    let after-cells2 : tie.After-cells2 = search needs in
+    search (part-kept, after-cells2 .cells2 .given)
 
 slice-aggregate-print-answer-4 : tie.Need-slice-aggregate-print-answer-4
-slice-aggregate-print-answer-4 c = search (part-kept, c .before .before .before .before .before .out-lengths2 .given)
+slice-aggregate-print-answer-4 c =
+    let after-out-lengths2 : tie.After-out-lengths2 = search needs in
+    search (part-kept, after-out-lengths2 .out-lengths2 .given)
 
 slice-aggregate-print-answer-5 : tie.Need-slice-aggregate-print-answer-5
-slice-aggregate-print-answer-5 c = search (part-kept, c .before .before .before .before .before .out-text2 .given)
+slice-aggregate-print-answer-5 c =
+    let after-out-text2 : tie.After-out-text2 = search needs in
+    search (part-kept, after-out-text2 .out-text2 .given)
 
 print-answer-requires : tie.Need-print-answer-requires
 print-answer-requires c κs = search needs

@@ -6,13 +6,13 @@ use Rattle.sizes.proofs.measure_table.Tie as tie
 
 -- where each call stands
 abbrev begun : tie.After-trim-lines-arg2 → tie.Start
-begun c = c .before .before .before .before .before .before .before .before .before .before .before .before
+begun c = search needs
 
 abbrev trimmed : tie.After-measure-cells-arg5 → tie.After-trim-lines
-trimmed c = c .before .before .before .before .before .before .before .before .before
+trimmed c = search needs
 
 abbrev counted : tie.After-column-offsets-arg → tie.After-measure-cells
-counted c = c .before .before .before .before .before .before .before
+counted c = search needs
 
 trim-lines-requires : tie.Need-trim-lines-requires
 trim-lines-requires c κs = trim-asked (begun c .pre .0 .1) (begun c .args .starts .now) (begun c .args .ends .now) (begun c .pre .1 .0)

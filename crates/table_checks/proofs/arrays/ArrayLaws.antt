@@ -18,14 +18,14 @@ use Rattle.table_checks.proofs.entries.EntryLaws.{entries-all}
 use Rattle.table_checks.proofs.WalkLaws.{all-fails, all-passes, all-done}
 
 -- ---- sizes, told by dividing
-pub half : (a n : ℕ) → eqb (a / 2) n && eqb (a % 2) 0 ≡ eqb a (2 * n)
-half a n =
+pub eqb-half : (a n : ℕ) → eqb (a / 2) n && eqb (a % 2) 0 ≡ eqb a (2 * n)
+eqb-half a n =
     bool-same (eqb (a / 2) n && eqb (a % 2) 0) (eqb a (2 * n))
     (λ e. let (q, r) = both-true (eqb (a / 2) n) (eqb (a % 2) 0) e in eq-eqb a (2 * n) (omega (arith, eqb-true (a / 2) n q, eqb-true (a % 2) 0 r)))
     (λ e. let same = eqb-true a (2 * n) e in and-intro (eq-eqb (a / 2) n (omega (arith, same))) (eq-eqb (a % 2) 0 (omega (arith, same))))
 
-pub fifth : (a n : ℕ) → eqb (a / 5) n && eqb (a % 5) 0 ≡ eqb a (5 * n)
-fifth a n =
+pub eqb-fifth : (a n : ℕ) → eqb (a / 5) n && eqb (a % 5) 0 ≡ eqb a (5 * n)
+eqb-fifth a n =
     bool-same (eqb (a / 5) n && eqb (a % 5) 0) (eqb a (5 * n))
     (λ e. let (q, r) = both-true (eqb (a / 5) n) (eqb (a % 5) 0) e in eq-eqb a (5 * n) (omega (arith, eqb-true (a / 5) n q, eqb-true (a % 5) 0 r)))
     (λ e. let same = eqb-true a (5 * n) e in and-intro (eq-eqb (a / 5) n (omega (arith, same))) (eq-eqb (a % 5) 0 (omega (arith, same))))

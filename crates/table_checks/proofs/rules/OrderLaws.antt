@@ -18,7 +18,7 @@ use Rattle.drawing.specs.GridRules.{comesBefore, staysInside, allInside}
 use Rattle.drawing.proofs.KeptLaws.{Lies, stays-lies}
 use Rattle.representation.specs.TableIn.{noCell}
 use Rattle.representation.proofs.TableInLaws.{cells-length, cells-at, columns-length}
-use Rattle.table_checks.specs.Places.{placesOf, gridIn, Placed, Within, Laid}
+use Rattle.table_checks.specs.Places.{placesOf, gridIn, CellsPlaced, Within, Laid}
 use Rattle.table_checks.proofs.WalkLaws.{all-fails, all-passes, all-done, neighbours-fail, neighbours-pass, neighbours-done}
 
 -- ---- in order
@@ -100,5 +100,5 @@ module _ (columns n : ℕ) (sections cells : List ℕ) where
         low = omega (arith, lies .low, length-map sections codeSection);
       }
 
-  pub cells-laid : Placed columns n sections cells → allInside (gridIn columns n sections cells) ≡ true → Laid columns n sections cells
+  pub cells-laid : CellsPlaced columns n sections cells → allInside (gridIn columns n sections cells) ≡ true → Laid columns n sections cells
   cells-laid placed e = record { placed = placed; within = cells-within e }

@@ -63,12 +63,12 @@ first-lowest a (b ∷ l) e (List·Memᴰ·head q) = rw q (leb-true a b (and-left
 first-lowest a (b ∷ l) e (List·Memᴰ·tail m) =
     le-trans (leb-true a b (and-left (leb a b) (neighbours leb (b ∷ l)) e)) (first-lowest b l (and-right (leb a b) (neighbours leb (b ∷ l)) e) m)
 
-rising : (l : List ℕ) → neighbours leb l ≡ true → (i j : ℕ) → i ≤ j → j < length l → getD l i 0 ≤ getD l j 0
-rising [] e i j u w = absurd (omega arith)
-rising (a ∷ l) e zero zero u w = omega arith
-rising (a ∷ l) e zero (suc j) u w = first-lowest a l e (getD-mem l j 0 (omega arith))
-rising (a ∷ l) e (suc i) zero u w = absurd (omega arith)
-rising (a ∷ l) e (suc i) (suc j) u w = rising l (sorted-tail leb a l e) i j (omega arith) (omega arith)
+neighbours-rising : (l : List ℕ) → neighbours leb l ≡ true → (i j : ℕ) → i ≤ j → j < length l → getD l i 0 ≤ getD l j 0
+neighbours-rising [] e i j u w = absurd (omega arith)
+neighbours-rising (a ∷ l) e zero zero u w = omega arith
+neighbours-rising (a ∷ l) e zero (suc j) u w = first-lowest a l e (getD-mem l j 0 (omega arith))
+neighbours-rising (a ∷ l) e (suc i) zero u w = absurd (omega arith)
+neighbours-rising (a ∷ l) e (suc i) (suc j) u w = neighbours-rising l (sorted-tail leb a l e) i j (omega arith) (omega arith)
 
 -- ---- no cell crosses
 abbrev pub staysWhole : Table → TableCell → Bool
@@ -109,7 +109,7 @@ module _ (columns n : ℕ) (sections cells : List ℕ) (laid : Laid columns n se
       same-rows sections (laid .placed .codes) row r (omega arith) (omega arith)
       ∙ eq-eqb (getD sections row 0) (getD sections r 0)
       (let ends = eqb-true (getD sections row 0) (getD sections last 0) e in
-      omega (arith, ends, rising sections run row r u (omega arith), rising sections run r last (omega arith) (omega arith)))))
+      omega (arith, ends, neighbours-rising sections run row r u (omega arith), neighbours-rising sections run r last (omega arith) (omega arith)))))
 
   module _ (k : ℕ)
       (passed : noneCrosses (gridIn columns n sections cells) ≡ all (staysWhole (gridIn columns n sections cells)) (drop k (placesOf n cells))) where

@@ -44,8 +44,10 @@ part-list-lines-end-2 c = search bytes-fit
 
 list-lines-requires : tie.Need-list-lines-requires
 list-lines-requires c κs =
-    let split = c .before .before .before .before .before .before .before .before .before .before .split-lines in
-    let agree = parts-agree _ _ _ _ _ _ (c .before .before .before .before .before .before .lines .given .1) (split .ensures .0) (split .ensures .1) in
+    let after-lines : tie.After-lines = search needs in
+    let after-split-lines : tie.After-split-lines = search needs in
+    let split = after-split-lines .split-lines in
+    let agree = parts-agree _ _ _ _ _ _ (after-lines .lines .given .1) (split .ensures .0) (split .ensures .1) in
     (agree .0, agree .1, search needs)
 
 same-length : tie.Need-same-length

@@ -9,7 +9,7 @@ use Rattle.writer.proofs.copy.Statement.{statement}
 use Rattle.writer.proofs.copy.Tie as tie
 
 abbrev Inv-loop : tie.InvT-loop
-Inv-loop bytes out₀ at end i₀ out i = (i ≤ end) × (end ≡ min (length bytes) (length out₀ - at)) × (at ≤ 4294967296) × (length out ≡ length out₀) × Wrote out₀ at (take i bytes) out (at + i)
+Inv-loop bytes out₀ at end i₀ out i = (i ≤ end) × (end ≡ min (length bytes) (length out₀ - at)) × (at + length bytes ≤ 18446744073709551615) × (length out ≡ length out₀) × Wrote out₀ at (take i bytes) out (at + i)
 
 abbrev μ-loop : tie.MeasureT-loop
 μ-loop bytes out₀ at end i₀ out i = end - i

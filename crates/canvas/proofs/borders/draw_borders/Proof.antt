@@ -33,7 +33,7 @@ loop-less c = search needs
 loop-again : tie.Need-loop-again Inv-loop μ-loop
 loop-again c =
     let ends = c .before .before in
-    let sides = ends .before .before .before .before in
+    let sides : tie.After-draw-sides Inv-loop μ-loop = search needs in
     let (_, _, drawn) = sides .before .before .before .loop .inv in
     (search needs, search needs, borders-next _ _ _ _ _ _ _ drawn (sides .draw-sides .ensures) (ends .draw-ends .ensures))
 

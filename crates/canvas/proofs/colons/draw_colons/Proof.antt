@@ -42,8 +42,9 @@ array-read-put-colons-2 c = search needs
 
 put-colons-requires : tie.Need-put-colons-requires Inv-loop μ-loop
 put-colons-requires c κs =
+    let start : tie.Start Inv-loop μ-loop = search needs in
     let test = c .before .before .before in
-    let ((low, _, _, room), (up, near)) = test .before .before .before .before .pre in
+    let ((low, _, _, room), (up, near)) = start .pre in
     colons-room _ _ _ _ _ _ _ _ _ (test .before .loop .inv) (test .loop-test .taken) up near low room
 
 loop-less : tie.Need-loop-less Inv-loop μ-loop

@@ -96,8 +96,9 @@ array-read-put-rect-4 c = search (needs, end-column-small)
 
 put-rect-requires : tie.Need-put-rect-requires Inv-loop μ-loop
 put-rect-requires c κs =
-    let test = c .before .before .before .before .before in
-    let ((few, _, room), _) = test .before .before .before .before .pre in
+    let start : tie.Start Inv-loop μ-loop = search needs in
+    let test : tie.In-loop Inv-loop μ-loop = search needs in
+    let ((few, _, room), _) = start .pre in
     frame-room _ _ _ _ _ _ _ (test .before .loop .inv) (test .loop-test .taken) few room
 
 add-k : tie.Need-add-k Inv-loop μ-loop

@@ -6,10 +6,10 @@ use Rattle.cm.proofs.draw.draw_frames.Tie as tie
 
 -- the function's start, from where the cells are placed; that place, and the one after it, from where the canvas is drawn
 abbrev begun : tie.After-place-cells-arg → tie.Start
-begun c = c .before .before .before .before .before
+begun c = search needs
 
 abbrev called : tie.After-draw-canvas-arg2 → tie.After-place-cells
-called c = c .before .before .before .before .before
+called c = search needs
 
 abbrev placing : tie.After-draw-canvas-arg2 → tie.After-place-cells-arg
 placing c = called c .before

@@ -7,16 +7,16 @@ use Rattle.cm.proofs.draw.draw_sized.Tie as tie
 
 -- the function's start, from where the test is made; where it has passed, from the end of the loans to draw_frames; that end, from where finish is called
 abbrev begun : tie.Else1 → tie.Start
-begun c = c .before .before .before .before .before .before .before .before .before .before .before .before .before
+begun c = search needs
 
 abbrev passed : tie.After-slice-known7 → tie.Else1
-passed c = c .before .before .before .before .before .before .before
+passed c = search needs
 
 abbrev framed : tie.After-slice-known7 → tie.After-draw-frames
-framed c = c .before .before .before .before
+framed c = search needs
 
 abbrev lent : tie.After-finish-arg5 → tie.After-slice-known7
-lent c = c .before .before .before .before .before
+lent c = search needs
 
 mul-right : tie.Need-mul-right
 mul-right c = search needs
@@ -39,8 +39,8 @@ draw-frames-requires c κs = let x = c .before .before in let G = begun x .pre i
 add-finish : tie.Need-add-finish
 add-finish c = search (needs, height-fits (begun (passed c) .pre .0) (passed c .if1 .left))
 
-add-finish-2 : tie.Need-add-finish-2
-add-finish-2 c = search (needs, width-fits (begun (passed c) .pre .0) (passed c .if1 .left))
+add-t29 : tie.Need-add-t29
+add-t29 c = search (needs, width-fits (begun (passed c) .pre .0) (passed c .if1 .left))
 
 finish-requires : tie.Need-finish-requires
 finish-requires c κs =
@@ -71,7 +71,7 @@ same-length-5 c = search needs
 returns-2 : tie.Need-returns-2
 returns-2 c =
     λ v S T.
-    let y = c .before .before .before .before .before .before in
+    let y : tie.After-finish = search needs in
     let x = lent (y .before) in
     let G = begun (passed x) .pre in
     y .finish .ensures v
@@ -88,7 +88,7 @@ draw-sized-spec =
     returns
     draw-frames-requires
     add-finish
-    add-finish-2
+    add-t29
     finish-requires
     same-length
     same-length-2

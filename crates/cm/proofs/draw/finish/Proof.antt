@@ -9,16 +9,16 @@ use Rattle.cm.proofs.draw.finish.Tie as tie
 
 -- the function's start, from where the lines are counted and tested
 abbrev tested : tie.After-write-sizes-arg2 → tie.After-lines-too-large
-tested c = c .before .before .before .before .before .before .before
+tested c = search needs
 
 abbrev passed : tie.After-write-sizes-arg2 → tie.Else1
-passed c = c .before .before .before .before .before .before
+passed c = search needs
 
 abbrev sized : tie.After-write-lines-arg → tie.After-write-sizes-arg2
-sized c = c .before .before .before .before .before .before
+sized c = search needs
 
 abbrev begun : tie.After-lines-too-large → tie.Start
-begun c = c .before .before .before .before .before .before .before .before .before .before .before .before
+begun c = search needs
 
 count-lines-requires : tie.Need-count-lines-requires
 count-lines-requires c κs = search needs
@@ -36,13 +36,21 @@ enum-known-k : tie.Need-enum-known-k
 enum-known-k c = search needs
 
 returns-2 : tie.Need-returns-2
-returns-2 c = λ v R h. late-split R _ _ h (begun (c .before .before .before .before .before) .pre .3) _ (c .before .before .before .before .before .before .count-lines .ensures v R h) _ _ (c .before .before .before .before .before .lines-too-large .ensures) (c .before .before .before .before .if1 .left) _ _ (c .before .before .before .first-split .ensures v R) (c .before .k .given .1)
+returns-2 c =
+    let else1 : tie.Else1 = search needs in
+    let after-lines-too-large : tie.After-lines-too-large = search needs in
+    let after-count-lines : tie.After-count-lines = search needs in
+    λ v R h. late-split R _ _ h (begun after-lines-too-large .pre .3) _ (after-count-lines .count-lines .ensures v R h) _ _ (after-lines-too-large .lines-too-large .ensures) (else1 .if1 .left) _ _ (c .before .before .before .first-split .ensures v R) (c .before .k .given .1)
 
 enum-told : tie.Need-enum-told
 enum-told c = search needs
 
 returns-3 : tie.Need-returns-3
-returns-3 c = λ v R h. late-short R _ _ h (begun (c .before .before .before .before .before) .pre .3) _ (c .before .before .before .before .before .before .count-lines .ensures v R h) _ _ (c .before .before .before .before .before .lines-too-large .ensures) (c .before .before .before .before .if1 .left) _ (c .before .before .before .first-split .ensures v R) (c .before .enum-told .given .1) (c .if2 .taken)
+returns-3 c =
+    let else1 : tie.Else1 = search needs in
+    let after-lines-too-large : tie.After-lines-too-large = search needs in
+    let after-count-lines : tie.After-count-lines = search needs in
+    λ v R h. late-short R _ _ h (begun after-lines-too-large .pre .3) _ (after-count-lines .count-lines .ensures v R h) _ _ (after-lines-too-large .lines-too-large .ensures) (else1 .if1 .left) _ (c .before .before .before .first-split .ensures v R) (c .before .enum-told .given .1) (c .if2 .taken)
 
 write-sizes-requires : tie.Need-write-sizes-requires
 write-sizes-requires c κs =
@@ -72,12 +80,14 @@ same-length-3 c = search needs
 
 returns-4 : tie.Need-returns-4
 returns-4 c =
+    let after-write-sizes : tie.After-write-sizes = search needs in
+    let after-first-split : tie.After-first-split = search needs in
     λ v R h.
     let y = sized (c .before .before .before) in
     let x = tested y in
-    late-drawn R _ _ h (begun x .pre .3) _ (x .before .count-lines .ensures v R h) _ _ (x .lines-too-large .ensures) (passed y .if1 .left) _ (y .before .before .before .before .before .first-split .ensures v R)
-    (y .before .before .before .enum-told .given .1) (y .before .before .if2 .left) _ _ _ (c .before .before .before .before .before .before .before .before .write-sizes .ensures .0)
-    (c .before .before .before .before .before .before .before .before .write-sizes .ensures .1) (c .before .before .write-lines .ensures v R h)
+    late-drawn R _ _ h (begun x .pre .3) _ (x .before .count-lines .ensures v R h) _ _ (x .lines-too-large .ensures) (passed y .if1 .left) _ (after-first-split .first-split .ensures v R)
+    (y .before .before .before .enum-told .given .1) (y .before .before .if2 .left) _ _ _ (after-write-sizes .write-sizes .ensures .0)
+    (after-write-sizes .write-sizes .ensures .1) (c .before .before .write-lines .ensures v R h)
 
 pub finish-spec : {M : Type 1} → statement M
 finish-spec =

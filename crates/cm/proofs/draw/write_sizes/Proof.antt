@@ -10,7 +10,7 @@ use Rattle.cm.proofs.draw.write_sizes.Tie as tie
 
 abbrev Inv-loop : tie.InvT-loop
 Inv-loop height origin out-lengths₀ out-columns₀ lengths y₀ out-lengths out-columns y =
-    (y ≤ height) × (out-lengths ≡ over (take y lengths) out-lengths₀) × (out-columns ≡ over (replicate y origin) out-columns₀)
+    (y ≤ height) × (out-lengths ≡ over (take y lengths) out-lengths₀) × (out-columns ≡ over (replicate y (origin .0)) out-columns₀)
     × (length out-lengths ≡ length out-lengths₀) × (length out-columns ≡ length out-columns₀)
 
 abbrev μ-loop : tie.MeasureT-loop

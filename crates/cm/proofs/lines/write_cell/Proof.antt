@@ -6,10 +6,10 @@ use Rattle.cm.proofs.lines.write_cell.Tie as tie
 
 -- the function's start, from where the cell's line is looked up; and that place, from later ones
 abbrev begun : tie.After-edge → tie.Start
-begun c = c .before .before .before .before .before .before .before .before
+begun c = search needs
 
 abbrev measured : tie.After-write-inner-arg → tie.After-edge
-measured c = c .before .before .before .before
+measured c = search needs
 
 abbrev written : tie.After-slice-known2 → tie.After-edge
 written c = measured (c .before .before .before)

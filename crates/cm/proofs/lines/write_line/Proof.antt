@@ -9,24 +9,25 @@ use Rattle.cm.proofs.lines.write_line.Statement.{statement}
 use Rattle.cm.proofs.lines.write_line.Tie as tie
 
 abbrev Inv-loop : tie.InvT-loop
-Inv-loop origin y width n rects canvas text starts ends firsts heights out₀ at end₀ x₀ out end x =
-    (end ≤ at + 641 * x) × (length out ≡ length out₀) × Walked n width (board rects text starts ends firsts heights) canvas origin y x out₀ at out end
+Inv-loop origin y n rects canvas text starts ends firsts heights out₀ across end₀ x₀ out end x =
+    (end .0 ≤ end₀ .0 + 641 * x) × (length out ≡ length out₀)
+    × Walked n across (board rects text starts ends firsts heights) canvas (origin .0) y x out₀ (end₀ .0) out (end .0)
 
 abbrev μ-loop : tie.MeasureT-loop
-μ-loop origin y width n rects canvas text starts ends firsts heights out₀ at end₀ x₀ out end x = width - x
+μ-loop origin y n rects canvas text starts ends firsts heights out₀ across end₀ x₀ out end x = across - x
 
 -- the function's start, from where a cell's line is to be written and from where it is
 abbrev begun : tie.After-write-cell-arg Inv-loop μ-loop → tie.Start Inv-loop μ-loop
-begun c = c .before .before .before .before .before .before .before .before .before .before .before .before .before
+begun c = search needs
 
 abbrev turn : tie.After-write-cell-arg Inv-loop μ-loop → tie.At-loop Inv-loop μ-loop
-turn c = c .before .before .before .before
+turn c = search needs
 
 abbrev called : tie.After-edge Inv-loop μ-loop → tie.After-write-cell-arg Inv-loop μ-loop
-called c = c .before .before .before .before
+called c = search needs
 
 abbrev ended : tie.After-loop Inv-loop μ-loop → tie.Start Inv-loop μ-loop
-ended c = c .before .before .before .before .before .before .before .before .before .before
+ended c = search needs
 
 loop-holds : tie.Need-loop-holds Inv-loop μ-loop
 loop-holds c = search (needs, walk-starts)

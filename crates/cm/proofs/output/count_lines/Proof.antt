@@ -11,17 +11,14 @@ use Rattle.cm.proofs.output.count_lines.Tie as tie
 abbrev Inv-loop : tie.InvT-loop
 Inv-loop origin height width n rects canvas text starts ends firsts heights none₀ lengths₀ bytes₀ y₀ none lengths bytes y =
     (y ≤ height) × (height ≤ 128) × (length none ≡ 0) × (length lengths ≡ 128) × (bytes ≤ 131072 * y)
-    × Counting n width (board rects text starts ends firsts heights) canvas origin height y lengths bytes
+    × Counting n (width .0) (board rects text starts ends firsts heights) canvas (origin .0) height y lengths bytes
 
 abbrev μ-loop : tie.MeasureT-loop
 μ-loop origin height width n rects canvas text starts ends firsts heights none₀ lengths₀ bytes₀ y₀ none lengths bytes y = height - y
 
 -- the function's start, from where a line is to be written
 abbrev begun : tie.After-none Inv-loop μ-loop → tie.Start Inv-loop μ-loop
-begun c = c .before .before .before .before .before .before .before .before .before .before
-
-abbrev turn : tie.After-none2 Inv-loop μ-loop → tie.At-loop Inv-loop μ-loop
-turn c = c .before .before .before .before
+begun c = search needs
 
 loop-holds : tie.Need-loop-holds Inv-loop μ-loop
 loop-holds c = search (needs, height-low, counted-none)
@@ -48,7 +45,11 @@ loop-less : tie.Need-loop-less Inv-loop μ-loop
 loop-less c = search needs
 
 loop-again : tie.Need-loop-again Inv-loop μ-loop
-loop-again c = (search needs, search needs, search needs, search needs, search needs, counted-next (turn c .loop .inv .5) _ _ _ (c .before .before .before .loop-test .taken) (search needs) (c .before .write-line .ensures .0))
+loop-again c =
+    let turn : tie.In-loop Inv-loop μ-loop = search needs in
+    let written : tie.After-write-line Inv-loop μ-loop = search needs in
+    let counted = counted-next (turn .before .loop .inv .5) _ _ _ (turn .loop-test .taken) (search needs) (written .write-line .ensures .0) in
+    (search needs, search needs, search needs, search needs, search needs, counted)
 
 returns : tie.Need-returns Inv-loop μ-loop
 returns c = search counted-all

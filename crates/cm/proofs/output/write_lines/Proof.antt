@@ -10,15 +10,15 @@ use Rattle.cm.proofs.output.write_lines.Tie as tie
 
 abbrev Inv-loop : tie.InvT-loop
 Inv-loop origin height width n rects canvas text starts ends firsts heights out₀ at₀ y₀ out at y =
-    (y ≤ height) × (height ≤ 128) × (at ≤ 131072 * y) × (length out ≡ length out₀)
-    × Writing n width (board rects text starts ends firsts heights) canvas origin height y out₀ out at
+    (y ≤ height) × (height ≤ 128) × (at .0 ≤ 131072 * y) × (length out ≡ length out₀)
+    × Writing n (width .0) (board rects text starts ends firsts heights) canvas (origin .0) height y out₀ out (at .0)
 
 abbrev μ-loop : tie.MeasureT-loop
 μ-loop origin height width n rects canvas text starts ends firsts heights out₀ at₀ y₀ out at y = height - y
 
 -- the function's start, from where a line is to be written
 abbrev begun : tie.After-write-line-arg Inv-loop μ-loop → tie.Start Inv-loop μ-loop
-begun c = c .before .before .before .before .before .before .before .before .before .before .before
+begun c = search needs
 
 loop-holds : tie.Need-loop-holds Inv-loop μ-loop
 loop-holds c = search (needs, height-low, written-none)

@@ -8,14 +8,14 @@ use Rattle.cm.proofs.split.first_split.Tie as tie
 
 abbrev Inv-loop : tie.InvT-loop
 Inv-loop origin width n rects canvas text starts ends firsts heights k₀ k =
-    (k ≤ n) × Unsplit n width (board rects text starts ends firsts heights) canvas origin k
+    (k ≤ n) × Unsplit n (width .0) (board rects text starts ends firsts heights) canvas (origin .0) k
 
 abbrev μ-loop : tie.MeasureT-loop
 μ-loop origin width n rects canvas text starts ends firsts heights k₀ k = n - k
 
 -- the function's start, from a turn's
 abbrev begun : tie.In-loop Inv-loop μ-loop → tie.Start Inv-loop μ-loop
-begun c = c .before .before .before .before .before .before .before .before .before
+begun c = search needs
 
 loop-holds : tie.Need-loop-holds Inv-loop μ-loop
 loop-holds c = search (needs, unsplit-none)

@@ -9,7 +9,7 @@ use Rattle.cm.proofs.split.hit_line.Statement.{statement}
 use Rattle.cm.proofs.split.hit_line.Tie as tie
 
 abbrev Inv-loop : tie.InvT-loop
-Inv-loop line from i lines₀ first byte₀ n₀ lines byte n = HitSoFar line first from i lines₀ lines byte n
+Inv-loop line from i lines₀ first byte₀ n₀ lines byte n = HitSoFar line first (from .0) i lines₀ lines byte n
 
 abbrev μ-loop : tie.MeasureT-loop
 μ-loop line from i lines₀ first byte₀ n₀ lines byte n = length line - byte

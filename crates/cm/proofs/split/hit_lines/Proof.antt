@@ -9,14 +9,14 @@ use Rattle.cm.proofs.split.hit_lines.Tie as tie
 
 abbrev Inv-loop : tie.InvT-loop
 Inv-loop column from count text starts ends firsts heights k hits₀ i₀ hits i =
-    (i ≤ count) × (count < 128) × (column .0 ≤ 1024) × (length (hits .lines) ≡ 128) × Counting text starts ends firsts heights (column .0) from k i (hits .lines)
+    (i ≤ count) × (count < 128) × (column .0 ≤ 1024) × (length (hits .lines) ≡ 128) × Counting text starts ends firsts heights (column .0) (from .0) k i (hits .lines)
 
 abbrev μ-loop : tie.MeasureT-loop
 μ-loop column from count text starts ends firsts heights k hits₀ i₀ hits i = count - i
 
 -- the function's start, from a turn's
 abbrev begun : tie.In-loop Inv-loop μ-loop → tie.Start Inv-loop μ-loop
-begun c = c .before .before .before .before .before .before .before
+begun c = search needs
 
 abbrev turn : tie.After-cell-line Inv-loop μ-loop → tie.At-loop Inv-loop μ-loop
 turn c = c .before .before

@@ -8,16 +8,16 @@ use Rattle.cm.proofs.split.splits.Tie as tie
 
 -- the function's start, from where the borders are read; and that place, from later ones
 abbrev begun : tie.After-edge4 → tie.Start
-begun c = c .before .before .before .before .before .before .before .before .before .before .before
+begun c = search needs
 
 abbrev short : tie.Then1 → tie.After-edge4
 short c = c .before .before
 
 abbrev apart : tie.Then2 → tie.After-edge4
-apart c = c .before .before .before .before
+apart c = search needs
 
-abbrev met : tie.Else2 → tie.After-edge4
-met c = c .before .before .before .before
+abbrev met : tie.After-struct-known → tie.After-edge4
+met c = search needs
 
 abbrev counted : tie.After-split-column2 → tie.After-edge4
 counted c = met (c .before .before)
@@ -69,7 +69,9 @@ returns c = λ v R. search (cell-short (begun (short c) .pre))
 
 split-column-requires : tie.Need-split-column-requires
 split-column-requires c κs =
-    column-asked (begun (c .before .before) .pre) _ _ _ _ (c .before .before .before .before .before .edge .ensures .0) (c .before .before .before .before .edge2 .ensures .0) (c .before .before .before .edge3 .ensures .0) (c .before .before .edge4 .ensures .0) (replicate 128 0) refl
+    let after-edge2 : tie.After-edge2 = search needs in
+    let after-edge : tie.After-edge = search needs in
+    column-asked (begun (c .before .before) .pre) _ _ _ _ (after-edge .edge .ensures .0) (after-edge2 .edge2 .ensures .0) (c .before .before .before .edge3 .ensures .0) (c .before .before .edge4 .ensures .0) (replicate 128 0) refl
 
 returns-2 : tie.Need-returns-2
 returns-2 c =
@@ -81,8 +83,8 @@ add-t18 c = search needs
 add-t19 : tie.Need-add-t19
 add-t19 c = search needs
 
-add-hit-lines : tie.Need-add-hit-lines
-add-hit-lines c = search needs
+add-t25 : tie.Need-add-t25
+add-t25 c = search needs
 
 hit-lines-requires : tie.Need-hit-lines-requires
 hit-lines-requires c κs = (
@@ -122,7 +124,7 @@ splits-spec =
     returns-2
     add-t18
     add-t19
-    add-hit-lines
+    add-t25
     hit-lines-requires
     split-column-requires-2
     returns-3)

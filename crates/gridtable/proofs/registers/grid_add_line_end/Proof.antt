@@ -13,7 +13,7 @@ add-reply-requires c κs = search needs
 
 -- where the end has been added
 abbrev called : tie.After-add-reply → tie.After-add
-called c = c .before .before .before .before .before .before .before
+called c = search needs
 
 same-length : tie.Need-same-length
 same-length c = search needs

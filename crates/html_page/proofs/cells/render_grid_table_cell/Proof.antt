@@ -1,22 +1,22 @@
 -- `html_page::cells::render_grid_table_cell` meets its contract: the cell is its four parts.
 use mir.Facts.{fits-16-64}
 use borrow.Author.Needs.{needs}
-use Rattle.html_page.proofs.cells.CellLaws.{cell-written, inner-short, inner-low, cell-near}
+use Rattle.html_page.proofs.cells.CellLaws.{cell-written, inner-low, cell-near}
 use Rattle.html_page.proofs.cells.render_grid_table_cell.Statement.{statement}
 use Rattle.html_page.proofs.cells.render_grid_table_cell.Tie as tie
 
 -- the calls before each, and the function's start
 abbrev copy-done : tie.After-close-cell → tie.After-copy
-copy-done c = c .before .before .before .before
+copy-done c = search needs
 
 abbrev tags-done : tie.After-copy → tie.After-render-attributes
-tags-done c = c .before .before .before .before .before
+tags-done c = search needs
 
 abbrev open-done : tie.After-render-attributes → tie.After-open-cell
-open-done c = c .before .before .before .before .before
+open-done c = search needs
 
 abbrev begun : tie.After-open-cell → tie.Start
-begun c = c .before .before .before .before .before .before .before .before .before .before
+begun c = search needs
 
 mul-column : tie.Need-mul-column
 mul-column c = search needs
@@ -106,7 +106,7 @@ part-copy-end : tie.Need-part-copy-end
 part-copy-end c = search needs
 
 copy-requires : tie.Need-copy-requires
-copy-requires c κs = (search needs, search inner-short)
+copy-requires c κs = search needs
 
 close-cell-requires : tie.Need-close-cell-requires
 close-cell-requires c κs = search inner-low

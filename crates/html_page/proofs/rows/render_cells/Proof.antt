@@ -34,7 +34,8 @@ turn c = c .before .before
 
 loop-holds : tie.Need-loop-holds Inv-loop μ-loop
 loop-holds c =
-    let given = c .before .before .before .before .pre in
+    let start : tie.Start Inv-loop μ-loop = search needs in
+    let given = start .pre in
     (given .0 .0, standing-in (given .0 .1), given .1 .0, given .1 .1, search needs, cells-none _ _ _ _ _ (given .0 .1))
 
 mul-if1 : tie.Need-mul-if1 Inv-loop μ-loop

@@ -7,13 +7,13 @@ use Rattle.html_page.proofs.rows.render_grid_table_row.Tie as tie
 
 -- the calls before each, and the function's start
 abbrev cells-done : tie.After-close-row → tie.After-render-cells
-cells-done c = c .before .before .before .before
+cells-done c = search needs
 
 abbrev open-done : tie.After-render-cells → tie.After-open-row
-open-done c = c .before .before .before .before .before
+open-done c = search needs
 
 abbrev begun : tie.After-open-row → tie.Start
-begun c = c .before .before .before .before .before .before .before
+begun c = search needs
 
 open-row-requires : tie.Need-open-row-requires
 open-row-requires c κs = search needs

@@ -27,11 +27,11 @@ abbrev turn : tie.After-render-grid-table-row Inv-loop μ-loop → tie.At-loop I
 turn c = c .before .before .before
 
 abbrev begun : tie.At-loop Inv-loop μ-loop → tie.Start Inv-loop μ-loop
-begun c = c .before .before .before .before .before .before
+begun c = search needs
 
 loop-holds : tie.Need-loop-holds Inv-loop μ-loop
 loop-holds c =
-    let start = c .before .before .before .before .before in
+    let start : tie.Start Inv-loop μ-loop = search needs in
     let a = start .args in
     (start .pre .0 .0, standing-first _ _, search needs, start .pre .1 .0, start .pre .1 .1, search needs, search needs, rows-none (a .n) (a .cols .now) (a .sections .now) (a .cells .now) (a .inner .now) _ _)
 

@@ -16,24 +16,30 @@ abbrev μ-loop : tie.MeasureT-loop
 
 -- the lines of a turn's cell, from the turn's end; the turn's start, from them
 abbrev escaped : tie.After-write-cell Inv-loop μ-loop → tie.After-escape-lines Inv-loop μ-loop
-escaped c = c .before .before .before .before .before .before .before .before .before .before .before
+escaped c = search needs
 
 abbrev turn : tie.After-escape-lines Inv-loop μ-loop → tie.In-loop Inv-loop μ-loop
-turn c = c .before .before .before .before .before
+turn c = search needs
 
 -- the test between them
 abbrev passed : tie.After-write-cell Inv-loop μ-loop → tie.Else1 Inv-loop μ-loop
-passed c = c .before .before .before .before .before .before .before
+passed c = search needs
+
+-- the function's start, from a turn
+abbrev begun : tie.In-loop Inv-loop μ-loop → tie.Start Inv-loop μ-loop
+begun c = search needs
 
 -- a cell's lines are there, and the text has come to its first
-within : (c : tie.After-shared-slice-known4 Inv-loop μ-loop) → let l = c .before .before .loop in l .line + getD (c .before .before .before .before .before .before .before .before .args .cells .now) (5 * l .k + 4) 0 ≤ 16384
-within c = let l = c .before .before .loop in omega (arith, lines-within _ _ _ _ _ _ (l .inv) (c .before .loop-test .taken), l .inv .linesGiven)
+within : (c : tie.In-loop Inv-loop μ-loop) → let l = c .before .loop in l .line + getD (begun c .args .cells .now) (5 * l .k + 4) 0 ≤ 16384
+within c = let l = c .before .loop in omega (arith, lines-within _ _ _ _ _ _ (l .inv) (c .loop-test .taken), l .inv .linesGiven)
 
-reached : (c : tie.After-escape-lines-arg Inv-loop μ-loop) → let l = c .before .before .before .loop in l .used ≤ length (c .before .before .before .before .before .before .before .before .before .args .text .now)
-reached c = text-within _ _ _ _ _ _ (c .before .before .before .loop .inv) (c .before .before .loop-test .taken)
+reached : (c : tie.In-loop Inv-loop μ-loop) → c .before .loop .used ≤ length (begun c .args .text .now)
+reached c = text-within _ _ _ _ _ _ (c .before .loop .inv) (c .loop-test .taken)
 
 loop-holds : tie.Need-loop-holds Inv-loop μ-loop
-loop-holds c = let given = c .before .before .before .before .before .pre in cells-none _ _ _ _ _ _ (given .0) (given .1 .0) (given .1 .1)
+loop-holds c =
+    let start : tie.Start Inv-loop μ-loop = search needs in
+    let given = start .pre in cells-none _ _ _ _ _ _ (given .0) (given .1 .0) (given .1 .1)
 
 mul-stop : tie.Need-mul-stop Inv-loop μ-loop
 mul-stop c = search needs
@@ -51,10 +57,10 @@ cast-stop : tie.Need-cast-stop Inv-loop μ-loop
 cast-stop c = fits-16-64 (c .shared-slice-known4 .given _)
 
 add-stop-2 : tie.Need-add-stop-2 Inv-loop μ-loop
-add-stop-2 c = search (needs, within c)
+add-stop-2 c = search (needs, within (c .before))
 
 mul-escape-lines : tie.Need-mul-escape-lines Inv-loop μ-loop
-mul-escape-lines c = search (needs, within c)
+mul-escape-lines c = search (needs, within (c .before))
 
 sub-escape-lines : tie.Need-sub-escape-lines Inv-loop μ-loop
 sub-escape-lines c = search needs
@@ -66,25 +72,25 @@ part-escape-lines-end : tie.Need-part-escape-lines-end Inv-loop μ-loop
 part-escape-lines-end c = lines-within _ _ _ _ _ _ (c .before .before .loop .inv) (c .before .loop-test .taken)
 
 sub-escape-lines-2 : tie.Need-sub-escape-lines-2 Inv-loop μ-loop
-sub-escape-lines-2 c = search (needs, reached c)
+sub-escape-lines-2 c = search (needs, reached (c .before .before))
 
 part-escape-lines-start-2 : tie.Need-part-escape-lines-start-2 Inv-loop μ-loop
-part-escape-lines-start-2 c = reached c
+part-escape-lines-start-2 c = reached (c .before .before)
 
 part-escape-lines-end-2 : tie.Need-part-escape-lines-end-2 Inv-loop μ-loop
 part-escape-lines-end-2 c = search needs
 
 escape-lines-requires : tie.Need-escape-lines-requires Inv-loop μ-loop
-escape-lines-requires c κs = let t = c .before .before .before .before in cell-asked _ _ _ _ _ _ (t .before .loop .inv) (t .loop-test .taken)
+escape-lines-requires c κs = let t : tie.In-loop Inv-loop μ-loop = search needs in cell-asked _ _ _ _ _ _ (t .before .loop .inv) (t .loop-test .taken)
 
 same-length : tie.Need-same-length Inv-loop μ-loop
 same-length c = search needs
 
 same-length-2 : tie.Need-same-length-2 Inv-loop μ-loop
-same-length-2 c = let e = c .before .before .before .before in inner-kept _ _ _ _ _ _ (turn e .before .loop .inv) (turn e .loop-test .taken) (e .escape-lines .ensures)
+same-length-2 c = let e : tie.After-escape-lines Inv-loop μ-loop = search needs in inner-kept _ _ _ _ _ _ (turn e .before .loop .inv) (turn e .loop-test .taken) (e .escape-lines .ensures)
 
 returns : tie.Need-returns Inv-loop μ-loop
-returns c = let e = c .before .before .before .before in cell-past _ _ _ _ _ _ (turn e .before .loop .inv) (turn e .loop-test .taken) (e .escape-lines .ensures) (c .if1 .taken)
+returns c = let e : tie.After-escape-lines Inv-loop μ-loop = search needs in cell-past _ _ _ _ _ _ (turn e .before .loop .inv) (turn e .loop-test .taken) (e .escape-lines .ensures) (c .if1 .taken)
 
 mul-write-cell : tie.Need-mul-write-cell Inv-loop μ-loop
 mul-write-cell c = search needs

@@ -18,7 +18,7 @@ abbrev turn : tie.After-break-before Inv-loop μ-loop → tie.In-loop Inv-loop �
 turn c = c .before .before .before
 
 abbrev broken : tie.After-escape-line Inv-loop μ-loop → tie.After-break-before Inv-loop μ-loop
-broken c = c .before .before .before .before .before
+broken c = search needs
 
 loop-holds : tie.Need-loop-holds Inv-loop μ-loop
 loop-holds c = search lines-none
@@ -49,7 +49,7 @@ part-escape-line-end c = search line-within
 
 escape-line-requires : tie.Need-escape-line-requires Inv-loop μ-loop
 escape-line-requires c κs =
-    let b = c .before .before .before .before in
+    let b : tie.After-break-before Inv-loop μ-loop = search needs in
     line-asked _ _ _ _ (turn b .before .loop .inv) (turn b .loop-test .taken) (b .break-before .ensures)
 
 add-i : tie.Need-add-i Inv-loop μ-loop

@@ -36,7 +36,9 @@ enum-known-across c = search needs
 -- the accepted table is small
 small : (c : tie.After-across) → let sizes = c .across .given .0 in
     (sizes .0 ≤ 127) × (sizes .1 .0 ≤ 127) × (sizes .1 .1 .0 ≤ 1024) × (sizes .1 .1 .1 .0 ≤ 16384) × (sizes .1 .1 .1 .1 .0 ≤ 32768)
-small c = table-small (table-held _ _ _ _ (c .before .before .before .before .before .before .before .lines-table .ensures) _ _ _ _ _ (c .across .given .1))
+small c =
+    let read : tie.After-lines-table = search needs in
+    table-small (table-held _ _ _ _ (read .lines-table .ensures) _ _ _ _ _ (c .across .given .1))
 
 mul-page-table : tie.Need-mul-page-table
 mul-page-table c = two-fits (small (c .before))
@@ -57,10 +59,14 @@ part-page-table-start-2 : tie.Need-part-page-table-start-2
 part-page-table-start-2 c = search needs
 
 part-page-table-end-2 : tie.Need-part-page-table-end-2
-part-page-table-end-2 c = search (needs, small (c .before .before .before .before))
+part-page-table-end-2 c =
+    let accepted : tie.After-across = search needs in
+    search (needs, small accepted)
 
 mul-page-table-2 : tie.Need-mul-page-table-2
-mul-page-table-2 c = five-fits (small (c .before .before .before .before .before))
+mul-page-table-2 c =
+    let accepted : tie.After-across = search needs in
+    five-fits (small accepted)
 
 sub-page-table-3 : tie.Need-sub-page-table-3
 sub-page-table-3 c = search needs
@@ -69,7 +75,9 @@ part-page-table-start-3 : tie.Need-part-page-table-start-3
 part-page-table-start-3 c = search needs
 
 part-page-table-end-3 : tie.Need-part-page-table-end-3
-part-page-table-end-3 c = search (needs, small (c .before .before .before .before .before .before))
+part-page-table-end-3 c =
+    let accepted : tie.After-across = search needs in
+    search (needs, small accepted)
 
 sub-page-table-4 : tie.Need-sub-page-table-4
 sub-page-table-4 c = search needs
@@ -78,7 +86,9 @@ part-page-table-start-4 : tie.Need-part-page-table-start-4
 part-page-table-start-4 c = search needs
 
 part-page-table-end-4 : tie.Need-part-page-table-end-4
-part-page-table-end-4 c = search (needs, small (c .before .before .before .before .before .before .before .before))
+part-page-table-end-4 c =
+    let accepted : tie.After-across = search needs in
+    search (needs, small accepted)
 
 sub-page-table-5 : tie.Need-sub-page-table-5
 sub-page-table-5 c = search needs
@@ -87,12 +97,15 @@ part-page-table-start-5 : tie.Need-part-page-table-start-5
 part-page-table-start-5 c = search needs
 
 part-page-table-end-5 : tie.Need-part-page-table-end-5
-part-page-table-end-5 c = search (needs, small (c .before .before .before .before .before .before .before .before .before .before))
+part-page-table-end-5 c =
+    let accepted : tie.After-across = search needs in
+    search (needs, small accepted)
 
 page-table-requires : tie.Need-page-table-requires
 page-table-requires c κs =
-    let x = c .before .before .before .before .before .before .before .before .before .before .before .before in
-    let held = table-held _ _ _ _ (x .before .before .before .before .before .before .before .lines-table .ensures) _ _ _ _ _ (x .across .given .1) in
+    let read : tie.After-lines-table = search needs in
+    let x : tie.After-across = search needs in
+    let held = table-held _ _ _ _ (read .lines-table .ensures) _ _ _ _ _ (x .across .given .1) in
     (held .agree, (read-some held, (held .cells, held .lines, held .bytes, search needs)))
 
 same-length : tie.Need-same-length

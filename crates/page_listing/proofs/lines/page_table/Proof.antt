@@ -7,13 +7,13 @@ use Rattle.page_listing.proofs.lines.page_table.Tie as tie
 
 -- the inner bytes and the test of them, from the page call; the function's start
 abbrev written : tie.After-page → tie.After-escape-cells
-written c = c .before .before .before .before .before .before .before .before .before
+written c = search needs
 
 abbrev within : tie.After-page → tie.Else1
-within c = c .before .before .before .before .before .before
+within c = search needs
 
 abbrev begun : tie.After-escape-cells → tie.Start
-begun c = c .before .before .before .before .before .before .before .before .before
+begun c = search needs
 
 slice-aggregate-escape-cells : tie.Need-slice-aggregate-escape-cells
 slice-aggregate-escape-cells c = search needs
@@ -23,7 +23,8 @@ slice-aggregate-escape-cells-2 c = search needs
 
 escape-cells-requires : tie.Need-escape-cells-requires
 escape-cells-requires c κs =
-    let given = c .before .before .before .before .before .before .before .before .pre in
+    let start : tie.Start = search needs in
+    let given = start .pre in
     let small = given .1 .1 in
     let asked = cells-asked _ _ (given .0) in
     ((small .0, asked .0, asked .1), ((omega (arith, asked, small), omega (arith, asked, small), asked .2), search needs))
@@ -36,9 +37,10 @@ same-length c = search needs
 
 returns : tie.Need-returns
 returns c =
-    let e = c .before .before .before .before .before .before .before in
+    let then1 : tie.Then1 = search needs in
+    let e : tie.After-escape-cells = search needs in
     let given = begun e .pre in
-    large-paged _ _ (given .0) _ (given .1 .0) _ _ _ (e .escape-cells .ensures) (c .before .before .before .before .if1 .taken) (c .before .before .refused .ensures)
+    large-paged _ _ (given .0) _ (given .1 .0) _ _ _ (e .escape-cells .ensures) (then1 .if1 .taken) (c .before .before .refused .ensures)
 
 mul-page : tie.Need-mul-page
 mul-page c = search needs
@@ -69,7 +71,7 @@ enum-known-number c = search needs
 
 refused-requires-2 : tie.Need-refused-requires-2
 refused-requires-2 c κs =
-    let p = c .before .before .before .before .before .before in
+    let p : tie.After-page = search needs in
     search (needs, p .page .kept, begun (written p) .pre .1 .1 .3)
 
 enum-known-end : tie.Need-enum-known-end
@@ -80,10 +82,11 @@ same-length-2 c = search needs
 
 returns-2 : tie.Need-returns-2
 returns-2 c =
-    let p = c .before .before .before .before .before .before .before .before .before in
+    let after-number : tie.After-number = search needs in
+    let p : tie.After-page = search needs in
     let e = written p in
     let given = begun e .pre in
-    refused-paged _ _ (given .0) _ _ _ (e .escape-cells .ensures .1 (within p .if1 .left)) _ _ (given .1 .1 .3) _ (p .page .ensures) _ _ (c .before .before .before .before .before .number .given .1)
+    refused-paged _ _ (given .0) _ _ _ (e .escape-cells .ensures .1 (within p .if1 .left)) _ _ (given .1 .1 .3) _ (p .page .ensures) _ _ (after-number .number .given .1)
     (c .before .before .refused2 .ensures)
 
 same-length-3 : tie.Need-same-length-3
@@ -91,7 +94,7 @@ same-length-3 c = search needs
 
 returns-3 : tie.Need-returns-3
 returns-3 c =
-    let p = c .before .before .before .before .before in
+    let p : tie.After-page = search needs in
     let e = written p in
     let given = begun e .pre in
     accepted-paged _ _ (given .0) _ _ _ (e .escape-cells .ensures .1 (within p .if1 .left)) _ _ (given .1 .1 .3) _ (p .page .ensures) _ (c .before .end .given .1)

@@ -40,8 +40,9 @@ same-length-2 c = search needs
 
 returns : tie.Need-returns
 returns c =
-    let start = c .before .before .before .before .before .before .before .before .before .before .before .before .before .before .before .before .before .before .before .before .before .before .before .before .before .before .before .before .before .before in
-    let call = c .before .before .before .before .before .before .before .before .before .before .before .before .redraw in
+    let after-redraw : tie.After-redraw = search needs in
+    let start : tie.Start = search needs in
+    let call = after-redraw .redraw in
     let given = start .args in
     let sizes = tableGiven (given .columns) (given .rows) (given .n) (given .lines) (given .bytes) in
     let table = tableLent (given .cols .now) (given .sections .now) (given .cells .now) (given .lengths .now) (given .text .now) in

@@ -36,7 +36,9 @@ enum-known-across c = search needs
 -- the accepted table is small
 small : (c : tie.After-across) → let sizes = c .across .given .0 in
     (sizes .0 ≤ 127) × (sizes .1 .0 ≤ 127) × (sizes .1 .1 .0 ≤ 1024) × (sizes .1 .1 .1 .0 ≤ 16384) × (sizes .1 .1 .1 .1 .0 ≤ 32768)
-small c = table-small (table-held _ _ _ _ (c .before .before .before .before .before .before .before .lines-table .ensures) _ _ _ _ _ (c .across .given .1))
+small c =
+    let read : tie.After-lines-table = search needs in
+    table-small (table-held _ _ _ _ (read .lines-table .ensures) _ _ _ _ _ (c .across .given .1))
 
 mul-redraw-table : tie.Need-mul-redraw-table
 mul-redraw-table c = two-fits (small (c .before))
@@ -57,10 +59,14 @@ part-redraw-table-start-2 : tie.Need-part-redraw-table-start-2
 part-redraw-table-start-2 c = search needs
 
 part-redraw-table-end-2 : tie.Need-part-redraw-table-end-2
-part-redraw-table-end-2 c = search (needs, small (c .before .before .before .before))
+part-redraw-table-end-2 c =
+    let accepted : tie.After-across = search needs in
+    search (needs, small accepted)
 
 mul-redraw-table-2 : tie.Need-mul-redraw-table-2
-mul-redraw-table-2 c = five-fits (small (c .before .before .before .before .before))
+mul-redraw-table-2 c =
+    let accepted : tie.After-across = search needs in
+    five-fits (small accepted)
 
 sub-redraw-table-3 : tie.Need-sub-redraw-table-3
 sub-redraw-table-3 c = search needs
@@ -69,7 +75,9 @@ part-redraw-table-start-3 : tie.Need-part-redraw-table-start-3
 part-redraw-table-start-3 c = search needs
 
 part-redraw-table-end-3 : tie.Need-part-redraw-table-end-3
-part-redraw-table-end-3 c = search (needs, small (c .before .before .before .before .before .before))
+part-redraw-table-end-3 c =
+    let accepted : tie.After-across = search needs in
+    search (needs, small accepted)
 
 sub-redraw-table-4 : tie.Need-sub-redraw-table-4
 sub-redraw-table-4 c = search needs
@@ -78,7 +86,9 @@ part-redraw-table-start-4 : tie.Need-part-redraw-table-start-4
 part-redraw-table-start-4 c = search needs
 
 part-redraw-table-end-4 : tie.Need-part-redraw-table-end-4
-part-redraw-table-end-4 c = search (needs, small (c .before .before .before .before .before .before .before .before))
+part-redraw-table-end-4 c =
+    let accepted : tie.After-across = search needs in
+    search (needs, small accepted)
 
 sub-redraw-table-5 : tie.Need-sub-redraw-table-5
 sub-redraw-table-5 c = search needs
@@ -87,12 +97,15 @@ part-redraw-table-start-5 : tie.Need-part-redraw-table-start-5
 part-redraw-table-start-5 c = search needs
 
 part-redraw-table-end-5 : tie.Need-part-redraw-table-end-5
-part-redraw-table-end-5 c = search (needs, small (c .before .before .before .before .before .before .before .before .before .before))
+part-redraw-table-end-5 c =
+    let accepted : tie.After-across = search needs in
+    search (needs, small accepted)
 
 redraw-table-requires : tie.Need-redraw-table-requires
 redraw-table-requires c κs =
-    let x = c .before .before .before .before .before .before .before .before .before .before .before .before in
-    (table-held _ _ _ _ (x .before .before .before .before .before .before .before .lines-table .ensures) _ _ _ _ _ (x .across .given .1) .agree, search needs)
+    let read : tie.After-lines-table = search needs in
+    let x : tie.After-across = search needs in
+    (table-held _ _ _ _ (read .lines-table .ensures) _ _ _ _ _ (x .across .given .1) .agree, search needs)
 
 same-length : tie.Need-same-length
 same-length c = search needs

@@ -25,7 +25,9 @@ enum-known-drawn c = search needs
 
 -- the drawing is small
 small : (c : tie.After-drawn) → (c .drawn .given .0 .0 ≤ 128) × (c .drawn .given .0 .1 .0 ≤ 32768)
-small c = let held = drawing-held _ _ _ _ (c .before .before .before .before .draw-lines .ensures) _ _ (c .drawn .given .1) in (held .0, held .1)
+small c =
+    let drawing : tie.After-draw-lines = search needs in
+    let held = drawing-held _ _ _ _ (drawing .draw-lines .ensures) _ _ (c .drawn .given .1) in (held .0, held .1)
 
 sub-print-lines : tie.Need-sub-print-lines
 sub-print-lines c = search needs
@@ -43,11 +45,15 @@ part-print-lines-start-2 : tie.Need-part-print-lines-start-2
 part-print-lines-start-2 c = search needs
 
 part-print-lines-end-2 : tie.Need-part-print-lines-end-2
-part-print-lines-end-2 c = search (needs, small (c .before .before .before .before))
+part-print-lines-end-2 c =
+    let after-drawn : tie.After-drawn = search needs in
+    search (needs, small after-drawn)
 
 print-lines-requires : tie.Need-print-lines-requires
 print-lines-requires c κs =
-    let held = drawing-held _ _ _ _ (c .before .before .before .before .before .before .before .before .before .before .draw-lines .ensures) _ _ (c .before .before .before .before .before .before .drawn .given .1) .2 in
+    let after-drawn : tie.After-drawn = search needs in
+    let after-draw-lines : tie.After-draw-lines = search needs in
+    let held = drawing-held _ _ _ _ (after-draw-lines .draw-lines .ensures) _ _ (after-drawn .drawn .given .1) .2 in
     (held .whole, search (needs, held .fewLines, held .fewBytes))
 
 same-length : tie.Need-same-length

@@ -60,7 +60,9 @@ loop-less c = search needs
 
 loop-again : tie.Need-loop-again Inv-loop μ-loop
 loop-again c =
-    (omega arith, one-started _ _ (c .before .before .before .before .before .loop .inv .1) (c .before .before .before .before .loop-test .taken) (c .before .before .before .shared-slice-known2 .given _) (c .before .least-width .ensures) (c .larger .ensures))
+    let in-loop : tie.In-loop Inv-loop μ-loop = search needs in
+    let at-loop : tie.At-loop Inv-loop μ-loop = search needs in
+    (omega arith, one-started _ _ (at-loop .loop .inv .1) (in-loop .loop-test .taken) (c .before .before .before .shared-slice-known2 .given _) (c .before .least-width .ensures) (c .larger .ensures))
 
 returns : tie.Need-returns Inv-loop μ-loop
 returns c = search (needs, all-started)

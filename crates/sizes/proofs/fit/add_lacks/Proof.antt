@@ -83,7 +83,9 @@ array-read-grown c = search last-inside
 
 add-grown-2 : tie.Need-add-grown-2 Inv-loop μ-loop
 add-grown-2 c =
-    lack-fits _ _ _ _ _ _ (c .before .before .before .before .before .before .loop .inv .1) (c .before .before .before .before .before .loop-test .taken) (c .before .total .ensures) (c .before .before .shared-slice-known5 .given _)
+    let in-loop : tie.In-loop Inv-loop μ-loop = search needs in
+    let at-loop : tie.At-loop Inv-loop μ-loop = search needs in
+    lack-fits _ _ _ _ _ _ (at-loop .loop .inv .1) (in-loop .loop-test .taken) (c .before .total .ensures) (c .before .before .shared-slice-known5 .given _)
 
 array-write-grown : tie.Need-array-write-grown Inv-loop μ-loop
 array-write-grown c = search last-inside
@@ -96,8 +98,10 @@ loop-less c = search needs
 
 loop-again : tie.Need-loop-again Inv-loop μ-loop
 loop-again c =
-    let inv = c .before .before .before .before .before .before .loop .inv .1 in
-    let taken = c .before .before .before .before .before .loop-test .taken in
+    let in-loop : tie.In-loop Inv-loop μ-loop = search needs in
+    let at-loop : tie.At-loop Inv-loop μ-loop = search needs in
+    let inv = at-loop .loop .inv .1 in
+    let taken = in-loop .loop-test .taken in
     ⊎-elim (λ w. (omega arith, some-lack _ _ _ _ _ _ inv taken (c .before .total .ensures) (c .before .before .shared-slice-known5 .given _) (search needs)))
     (λ w. (omega arith, no-lack _ _ _ _ _ _ inv taken (c .before .total .ensures) (search needs) (search needs))) (c .if1 .came)
 

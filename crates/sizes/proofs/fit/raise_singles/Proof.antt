@@ -77,7 +77,8 @@ loop-less c = search needs
 
 loop-again : tie.Need-loop-again Inv-loop μ-loop
 loop-again c =
-    let inv = c .before .before .before .before .before .before .loop .inv .1 in
+    let at-loop : tie.At-loop Inv-loop μ-loop = search needs in
+    let inv = at-loop .loop .inv .1 in
     ⊎-elim (λ w. (omega arith, single-raised _ _ _ _ _ _ inv (search needs) (c .before .before .before .shared-slice-known4 .given _) (c .before .before .larger .ensures) (search needs)))
     (λ w. (omega arith, search none-raised)) (c .if1 .came)
 

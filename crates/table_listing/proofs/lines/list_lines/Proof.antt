@@ -36,7 +36,9 @@ enum-known-across c = search needs
 -- the accepted table is small
 small : (c : tie.After-across) → let sizes = c .across .given .0 in
     (sizes .0 ≤ 127) × (sizes .1 .0 ≤ 127) × (sizes .1 .1 .0 ≤ 1024) × (sizes .1 .1 .1 .0 ≤ 16384) × (sizes .1 .1 .1 .1 .0 ≤ 32768)
-small c = table-small (table-held _ _ _ _ (c .before .before .before .before .before .before .before .lines-table .ensures) _ _ _ _ _ (c .across .given .1))
+small c =
+    let read : tie.After-lines-table = search needs in
+    table-small (table-held _ _ _ _ (read .lines-table .ensures) _ _ _ _ _ (c .across .given .1))
 
 mul-table-cells : tie.Need-mul-table-cells
 mul-table-cells c = five-fits (small (c .before))
@@ -57,7 +59,9 @@ part-table-cells-start-2 : tie.Need-part-table-cells-start-2
 part-table-cells-start-2 c = search needs
 
 part-table-cells-end-2 : tie.Need-part-table-cells-end-2
-part-table-cells-end-2 c = search (needs, small (c .before .before .before .before))
+part-table-cells-end-2 c =
+    let accepted : tie.After-across = search needs in
+    search (needs, small accepted)
 
 sub-table-cells-3 : tie.Need-sub-table-cells-3
 sub-table-cells-3 c = search needs
@@ -66,11 +70,14 @@ part-table-cells-start-3 : tie.Need-part-table-cells-start-3
 part-table-cells-start-3 c = search needs
 
 part-table-cells-end-3 : tie.Need-part-table-cells-end-3
-part-table-cells-end-3 c = search (needs, small (c .before .before .before .before .before .before))
+part-table-cells-end-3 c =
+    let accepted : tie.After-across = search needs in
+    search (needs, small accepted)
 
 table-cells-requires : tie.Need-table-cells-requires
 table-cells-requires c κs =
-    let few = parts-small (small (c .before .before .before .before .before .before .before .before)) _ _ in
+    let accepted : tie.After-across = search needs in
+    let few = parts-small (small accepted) _ _ in
     (few .0, few .1, few .2, search needs)
 
 same-length : tie.Need-same-length

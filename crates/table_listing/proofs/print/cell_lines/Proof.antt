@@ -70,11 +70,16 @@ loop-less c = search turn-less
 
 loop-again : tie.Need-loop-again Inv-loop μ-loop
 loop-again c =
-    let start = c .before .before .before .before .before .before .before .before .before .before .before .before .before .before .before .before .before .before .before in
-    let counted = c .before .before .before .before .before .before .before .before .before .before .before .before .entry in
-    let least = c .before .before .before .before .before .before .before .before .before .before .before .least in
+    let after-cell-line : tie.After-cell-line Inv-loop μ-loop = search needs in
+    let after-least : tie.After-least Inv-loop μ-loop = search needs in
+    let after-entry : tie.After-entry Inv-loop μ-loop = search needs in
+    let in-loop : tie.In-loop Inv-loop μ-loop = search needs in
+    let at-loop : tie.At-loop Inv-loop μ-loop = search needs in
+    let start : tie.Start Inv-loop μ-loop = search needs in
+    let counted = after-entry .entry in
+    let least = after-least .least in
     let lines = c .before .before .before .text-lines in
-    cells-next (start .args .count) (start .args .cells .now) (start .args .lengths .now) (start .args .text .now) (start .args .out .now) (start .args .at) (c .before .before .before .before .before .before .before .before .before .before .before .before .before .before .loop .inv) (counted .result) (least .result) (lines .result) (c .before .before .before .before .before .before .before .before .before .before .before .before .before .loop-test .taken) (counted .ensures) (least .ensures) (c .before .before .before .before .before .before .before .before .before .cell-line .ensures) (lines .ensures)
+    cells-next (start .args .count) (start .args .cells .now) (start .args .lengths .now) (start .args .text .now) (start .args .out .now) (start .args .at) (at-loop .loop .inv) (counted .result) (least .result) (lines .result) (in-loop .loop-test .taken) (counted .ensures) (least .ensures) (after-cell-line .cell-line .ensures) (lines .ensures)
 
 same-length : tie.Need-same-length Inv-loop μ-loop
 same-length c = search needs

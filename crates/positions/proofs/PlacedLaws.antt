@@ -17,7 +17,7 @@ use Rattle.representation.specs.LayoutParts.{rectsAnswer}
 use Rattle.reading.specs.Agreement.{anyOver}
 use Rattle.reading.specs.Call.{SheetArrays, Reading}
 use Rattle.reading.specs.declared.Outcome.{Outcome}
-use Rattle.reading.proofs.WidthLaws.{none-over-limit}
+use Rattle.reading.proofs.limits.LimitLaws.{none-over-limit}
 use Rattle.reading.proofs.ReadingLaws.{refused-by}
 use Rattle.sourcepos.specs.PositionsCall.{FlatPlaced, placed, placedContradicts, numbersTooLarge}
 use Rattle.positions.specs.Needs.{PlacedSheet}

@@ -11,12 +11,12 @@ use lib.ListN.{length, take, set}
 use lib.Seq.{take-suc-set}
 use borrow.Author.Tests.{eqb-true, eqb-false}
 use Rattle.seq.proofs.Tests.{and-right, or-cases, or-neither}
-use Rattle.text.specs.Utf8.{charIndices, plain}
+use Rattle.text.specs.Utf8.{plain}
 use Rattle.text.specs.Trim.{trimEnd}
 use Rattle.text.specs.Rule.{isRule}
 use Rattle.text.proofs.TrimLaws.{trim-shorter}
 use Rattle.text.proofs.TrimmedLaws.{plain-trim, rule-plain}
-use Rattle.grid.specs.Slots.{slotsFrom, lineSlots}
+use Rattle.grid.specs.Slots.{lineSlots}
 use Rattle.slots.specs.Line.{FilledLine}
 use Rattle.slots.specs.Scan.{LineCounted}
 use Rattle.slots.specs.Filling.{separates, separatorLines, FilledNext}

@@ -1,5 +1,5 @@
 -- Laws of scanning a line, character by character: the characters before a byte are written, in n slots (`ScanSoFar`).
-use Prim.Native.Nat.{ℕ, zero, suc, _+_, _-_, _*_, _^_, _≤_, _<_}
+use Prim.Native.Nat.{ℕ, zero, suc, _+_, _*_, _^_, _≤_, _<_}
 use mathlib.Core.Path.{_≡_, refl, sym, ap, _∙_}
 use mathlib.Core.Bool.{Bool, true, false, not}
 use mathlib.Core.Logic.{⊎-elim}
@@ -11,7 +11,6 @@ use lib.Seq.{take-at, drop-at, drop-drop, take-add, take-all, length-take-le, ge
 use borrow.Author.Tests.{ne-eqb, not-true, not-false}
 use Rattle.seq.specs.Lists.{within}
 use Rattle.seq.proofs.ListsLaws.{within-low}
-use Rattle.text.specs.declared.Column.{Column}
 use Rattle.text.specs.declared.Decoded.the-variants.{Character, Refused}
 use Rattle.text.specs.Characters.{columnsOf, inSet, span}
 use Rattle.text.specs.Columns.{byteColumns}
@@ -24,10 +23,10 @@ use Rattle.utf8.specs.Several.{Whole}
 use Rattle.grid.specs.Slots.{Slot, glyphOf, slotsFrom}
 use Rattle.representation.specs.Arrays.{glyphCode, glyphCodes, slotBytes}
 use Rattle.slots.specs.Replaced.{replaced}
-use Rattle.slots.specs.Scan.{scannedSlots, PutWithin, LineLeft, LineScanned}
+use Rattle.slots.specs.Scan.{scannedSlots, PutWithin, LineScanned}
 use Rattle.slots.specs.declared.scan.Scanned.{Scanned}
 use Rattle.slots.specs.declared.scan.Scanned.the-variants.{Columns, Outside}
-use Rattle.slots.proofs.glyphs.ReplaceLaws.{replaced-none, replaced-more, length-replaced, part-replaced}
+use Rattle.slots.proofs.glyphs.ReplaceLaws.{replaced-none, replaced-more, part-replaced}
 
 map-replicate : (f : Slot → ℕ) (n : ℕ) (s : Slot) → map f (replicate n s) ≡ replicate n (f s)
 map-replicate f zero s = refl

@@ -22,6 +22,7 @@ pub fn all() -> Vec<(String, Lines)> {
     add("two-column characters, full size", wide_text());
     add("accented letters, full size", accents());
     add("marks up to 512 bytes a line", marks());
+    add("tabs, full size", tabs());
     add("blanks up to 512 bytes a line", blanks());
     add("late refusal: 5 on the last line", late_width());
     add("late refusal: 6 at the last rectangle", late_trace());
@@ -176,6 +177,16 @@ fn separators() -> Lines {
     for _ in 0..127 {
         text.push(rule(&widths, "="));
     }
+    lines_of(text)
+}
+
+/// 128 lines by 128 columns; each inner line has 31 tabs.
+fn tabs() -> Lines {
+    let mut text = vec![rule(&[126], "-")];
+    for _ in 0..126 {
+        text.push(format!("|{}   |", "a\t".repeat(31)));
+    }
+    text.push(rule(&[126], "-"));
     lines_of(text)
 }
 

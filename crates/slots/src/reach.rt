@@ -67,8 +67,9 @@ fn reach_from(glyphs: &[u8], y: usize, x: usize, down: &[u8]) -> u8
 {
     let at = y * STRIDE + x;
     let below = at + STRIDE;
+    let next = down[below];
     if is_vertical(glyphs[at]) & is_vertical(glyphs[below]) {
-        down[below]
+        next
     } else {
         y as u8
     }

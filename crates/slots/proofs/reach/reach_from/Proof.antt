@@ -13,6 +13,9 @@ add-at c = search needs
 add-below : tie.Need-add-below
 add-below c = search needs
 
+shared-slice-read-next : tie.Need-shared-slice-read-next
+shared-slice-read-next c = search needs
+
 shared-slice-read-is-vertical : tie.Need-shared-slice-read-is-vertical
 shared-slice-read-is-vertical c = search needs
 
@@ -24,9 +27,6 @@ shared-slice-read-is-vertical-2 c = search needs
 
 is-vertical-requires-2 : tie.Need-is-vertical-requires-2
 is-vertical-requires-2 c κs = search needs
-
-shared-slice-read-result : tie.Need-shared-slice-read-result
-shared-slice-read-result c = search needs
 
 cast-result : tie.Need-cast-result
 cast-result c = search needs
@@ -44,11 +44,11 @@ reach-from-spec =
     mul-at
     add-at
     add-below
+    shared-slice-read-next
     shared-slice-read-is-vertical
     is-vertical-requires
     shared-slice-read-is-vertical-2
     is-vertical-requires-2
-    shared-slice-read-result
     cast-result
     returns
     returns-2)

@@ -49,9 +49,6 @@ module _ (s : Source) (top left right count i : ℕ) (h : i < count) where
     pub pieces-fit : (piece : List ℕ) → piece ≡ cutBetween s left right (top + 1 + i) → Fits w16 (length piece)
     pieces-fit piece e = record { fits = omega (arith, pieces-short piece e) }
 
-    pub pieces-small : (piece : List ℕ) → piece ≡ cutBetween s left right (top + 1 + i) → length piece ≤ 65536
-    pieces-small piece e = omega (arith, pieces-short piece e)
-
 -- the first i lines of a cell, up to byte `end`
 pub record LinesWritten (s : Source) (top left right count at byte : ℕ) (lengths text : List ℕ) (i end : ℕ) (lengths′ text′ : List ℕ) : Type 0 where
   pub cuttable : (y : ℕ) → top < y → y ≤ top + count → Cuttable s left right y
@@ -78,10 +75,13 @@ module _ (s : Source) (top left right count at byte : ℕ) (lengths text : List 
     pub linesWritten-line-fits : SourceReady s → i < count → Fits w64 (top + 1 + i)
     linesWritten-line-fits ready h = record { fits = omega (arith, line-small s top left right count i h ready (w .cuttable)) }
 
-    pub linesWritten-low : byte + length (joinText (pieces s top left right count)) ≤ mostText → end ≤ 4294967296
-    linesWritten-low few = omega (arith, w .place, first-shorter (λ t. t) (pieces s top left right count) i)
-
     module _ (h : i < count) (piece : List ℕ) (e : piece ≡ cutBetween s left right (top + 1 + i)) where
+      pub linesWritten-place-fits : SourceReady s → byte + length (joinText (pieces s top left right count)) ≤ mostText
+          → end + length piece ≤ 18446744073709551615
+      linesWritten-place-fits ready few =
+          let short = pieces-short s top left right count i h ready (w .cuttable) piece e in
+          omega (arith, w .place, first-shorter (λ t. t) (pieces s top left right count) i, short)
+
       here : getD (pieces s top left right count) i (cutBetween s left right 0) ≡ piece
       here = piece-at s top left right count i h ∙ sym e
 

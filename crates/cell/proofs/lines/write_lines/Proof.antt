@@ -3,7 +3,7 @@ use Prim.Native.Nat.{_-_, _≤_}
 use native.Mathlib.Omega.{arith}
 use borrow.Author.Needs.{needs}
 use Rattle.cell.specs.Text.{source}
-use Rattle.cell.proofs.lines.WriteLaws.{pieces-cuttable, linesWritten-first-fits, linesWritten-line-fits, pieces-fit, pieces-small, LinesWritten, linesWritten-none, linesWritten-low, linesWritten-next, linesWritten-end, linesWritten-lengths, linesWritten-text}
+use Rattle.cell.proofs.lines.WriteLaws.{pieces-cuttable, linesWritten-first-fits, linesWritten-line-fits, pieces-fit, LinesWritten, linesWritten-none, linesWritten-place-fits, linesWritten-next, linesWritten-end, linesWritten-lengths, linesWritten-text}
 use Rattle.cell.proofs.lines.write_lines.Statement.{statement}
 use Rattle.cell.proofs.lines.write_lines.Tie as tie
 
@@ -39,7 +39,7 @@ slice-write-out-lengths : tie.Need-slice-write-out-lengths Inv-loop μ-loop
 slice-write-out-lengths c = omega arith
 
 copy-requires : tie.Need-copy-requires Inv-loop μ-loop
-copy-requires c κs = (search linesWritten-low, search pieces-small)
+copy-requires c κs = search linesWritten-place-fits
 
 add-i : tie.Need-add-i Inv-loop μ-loop
 add-i c = omega arith

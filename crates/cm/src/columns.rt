@@ -37,5 +37,5 @@ pub fn columns(line: &[u8], column: Column) -> Column
     if has_tab(line) {
         return columns_decoded(line, column);
     }
-    Column(added_columns(line))
+    added_columns(line)
 }

@@ -33,5 +33,5 @@ pub fn line_columns(line: &[u8]) -> Column
     requires { ⌜ (length (now line) ≤ 512) × (wellFormed (now line) ≡ true) ⌝ }
     ensures { λ r. ⌜ (r .0 ≡ lineColumns (now (line .entry))) × (r .0 ≤ 4 * length (now (line .entry))) ⌝ }
 {
-    Column(added_columns(line))
+    added_columns(line)
 }

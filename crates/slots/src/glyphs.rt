@@ -4,7 +4,8 @@ use representation::DASH;
 use representation::OTHER;
 use representation::PIPE;
 use representation::PLUS;
-ghost use Prim.Native.Nat.{_+_, _≤_};
+use text::ByteAt;
+ghost use Prim.Native.Nat.{_+_, _≤_, _<_};
 ghost use mathlib.Core.Path.{_≡_};
 ghost use lib.ListN.{length, replicate};
 ghost use Rattle.seq.specs.Lists.{upTo};
@@ -35,16 +36,16 @@ pub fn put_slots(
     count: usize,
     rule: bool,
     value: u32,
-    byte: u16,
+    byte: ByteAt,
 )
-    requires { ⌜ (at + count ≤ length (now glyphs)) × (at + count ≤ length (now offsets)) ⌝ }
+    requires { ⌜ (at + count ≤ length (now glyphs)) × (at + count ≤ length (now offsets)) × (byte .0 < 65536) ⌝ }
     ensures { λ _. ⌜ now (glyphs .exit) ≡ replaced (now (glyphs .entry)) at (replicate count (glyphCode (glyphOf rule value))) ⌝ }
-    ensures { λ _. ⌜ now (offsets .exit) ≡ replaced (now (offsets .entry)) at (replicate count byte) ⌝ }
+    ensures { λ _. ⌜ now (offsets .exit) ≡ replaced (now (offsets .entry)) at (replicate count (byte .0)) ⌝ }
 {
     let mut i = 0;
     while i < count {
         glyphs[at + i] = glyph(rule, value);
-        offsets[at + i] = byte;
+        offsets[at + i] = byte.0 as u16;
         i += 1;
     }
 }

@@ -30,15 +30,16 @@ fn put_within(
     glyphs: &mut [u8],
     offsets: &mut [u16],
     at: usize,
-    n: usize,
+    n: Column,
     count: usize,
     value: u32,
-    byte: u16,
+    byte: ByteAt,
 )
-    requires { ⌜ (n ≤ 2048) × (count ≤ 4) × (at + 128 ≤ length (now glyphs)) × (at + 128 ≤ length (now offsets)) ⌝ }
+    requires { ⌜ (n .0 ≤ 2048) × (count ≤ 4) × (byte .0 ≤ 512) × (at + 128 ≤ length (now glyphs)) × (at + 128 ≤ length (now offsets)) ⌝ }
     ensures { λ _.
-        ⌜ PutWithin at n count value byte (now (glyphs .entry)) (now (offsets .entry)) (now (glyphs .exit)) (now (offsets .exit)) ⌝ }
+        ⌜ PutWithin at (n .0) count value (byte .0) (now (glyphs .entry)) (now (offsets .entry)) (now (glyphs .exit)) (now (offsets .exit)) ⌝ }
 {
+    let n = n.0;
     if n + count <= STRIDE {
         put_slots(glyphs, offsets, at + n, count, false, value, byte);
     }
@@ -64,22 +65,23 @@ fn scan_line(
     while byte < line.len() {
         let a = widened(line[byte]);
         if within(0x20, 0x7e, a) {
-            put_within(glyphs, offsets, at, n, 1, a, byte as u16);
+            put_within(glyphs, offsets, at, Column(n), 1, a, ByteAt(byte));
             byte += 1;
             n += 1;
         } else if a < 0x80 {
             if !in_set(a) {
                 return Scanned::Outside;
             }
-            let count = span_in_set(a, Column(first + n));
-            put_within(glyphs, offsets, at, n, count, a, byte as u16);
+            let place = first + n;
+            let count = span_in_set(a, Column(place));
+            put_within(glyphs, offsets, at, Column(n), count, a, ByteAt(byte));
             byte += 1;
             n += count;
         } else if a < 0xcc {
             if !is_two(line, ByteAt(byte)) {
                 return Scanned::Outside;
             }
-            put_within(glyphs, offsets, at, n, 1, a, byte as u16);
+            put_within(glyphs, offsets, at, Column(n), 1, a, ByteAt(byte));
             byte += 2;
             n += 1;
         } else if a < 0xe0 {
@@ -91,7 +93,7 @@ fn scan_line(
             if !is_three(line, ByteAt(byte)) {
                 return Scanned::Outside;
             }
-            put_within(glyphs, offsets, at, n, 2, a, byte as u16);
+            put_within(glyphs, offsets, at, Column(n), 2, a, ByteAt(byte));
             byte += 3;
             n += 2;
         }

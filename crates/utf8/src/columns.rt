@@ -1,5 +1,6 @@
 // The columns of a line that is known to be UTF-8 of the set, added up over its bytes: no character is
 // put together, so many bytes are added at a time.
+use text::Column;
 ghost use Prim.Native.Nat.{_*_, _≤_};
 ghost use mathlib.Core.Path.{_≡_};
 ghost use lib.ListN.{length};
@@ -22,9 +23,9 @@ fn byte_columns(b: u8) -> u16
 }
 
 // A tab counts as 4.
-pub fn added_columns(line: &[u8]) -> usize
+pub fn added_columns(line: &[u8]) -> Column
     requires { ⌜ length (now line) ≤ 512 ⌝ }
-    ensures { λ r. ⌜ (r ≡ addedColumns (now (line .entry))) × (r ≤ 4 * length (now (line .entry))) ⌝ }
+    ensures { λ r. ⌜ (r .0 ≡ addedColumns (now (line .entry))) × (r .0 ≤ 4 * length (now (line .entry))) ⌝ }
 {
     let mut n: u16 = 0;
     let mut i = 0;
@@ -32,7 +33,8 @@ pub fn added_columns(line: &[u8]) -> usize
         n += byte_columns(line[i]);
         i += 1;
     }
-    n as usize
+    let columns = n as usize;
+    Column(columns)
 }
 
 // Is there a tab? No byte ends the loop, so that many are tested at a time.

@@ -8,7 +8,7 @@ use Rattle.slots.proofs.glyphs.put_slots.Statement.{statement}
 use Rattle.slots.proofs.glyphs.put_slots.Tie as tie
 
 abbrev Inv-loop : tie.InvT-loop
-Inv-loop glyphs₀ offsets₀ at count rule value byte i₀ glyphs offsets i = (i ≤ count) × PutSoFar at (glyphCode (glyphOf rule value)) glyphs₀ glyphs i × PutSoFar at byte offsets₀ offsets i
+Inv-loop glyphs₀ offsets₀ at count rule value byte i₀ glyphs offsets i = (i ≤ count) × PutSoFar at (glyphCode (glyphOf rule value)) glyphs₀ glyphs i × PutSoFar at (byte .0) offsets₀ offsets i
 
 abbrev μ-loop : tie.MeasureT-loop
 μ-loop glyphs₀ offsets₀ at count rule value byte i₀ glyphs offsets i = count - i
@@ -24,6 +24,9 @@ add-glyphs c = search needs
 
 slice-write-glyphs : tie.Need-slice-write-glyphs Inv-loop μ-loop
 slice-write-glyphs c = search needs
+
+cast-offsets : tie.Need-cast-offsets Inv-loop μ-loop
+cast-offsets c = search needs
 
 add-offsets : tie.Need-add-offsets Inv-loop μ-loop
 add-offsets c = search needs
@@ -62,6 +65,7 @@ put-slots-spec =
     glyph-requires
     add-glyphs
     slice-write-glyphs
+    cast-offsets
     add-offsets
     mul-offsets
     slice-write-offsets

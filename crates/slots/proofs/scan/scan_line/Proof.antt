@@ -24,9 +24,6 @@ widened-requires c κs = search needs
 within-requires : tie.Need-within-requires Inv-loop μ-loop
 within-requires c κs = search needs
 
-cast-put-within : tie.Need-cast-put-within Inv-loop μ-loop
-cast-put-within c = search needs
-
 put-within-requires : tie.Need-put-within-requires Inv-loop μ-loop
 put-within-requires c κs = search needs
 
@@ -54,14 +51,11 @@ same-length-2 c = search needs
 returns : tie.Need-returns Inv-loop μ-loop
 returns c = search scan-control
 
-add-t25 : tie.Need-add-t25 Inv-loop μ-loop
-add-t25 c = search needs
+add-place : tie.Need-add-place Inv-loop μ-loop
+add-place c = search needs
 
 span-in-set-requires : tie.Need-span-in-set-requires Inv-loop μ-loop
 span-in-set-requires c κs = search inSet-known
-
-cast-put-within-2 : tie.Need-cast-put-within-2 Inv-loop μ-loop
-cast-put-within-2 c = search needs
 
 put-within-requires-2 : tie.Need-put-within-requires-2 Inv-loop μ-loop
 put-within-requires-2 c κs = search (needs, span-few)
@@ -75,8 +69,29 @@ add-n-2 c = search count-fits
 loop-less-2 : tie.Need-loop-less-2 Inv-loop μ-loop
 loop-less-2 c = search needs
 
+-- where a character was put down, back to the branch and to the loop's start
+abbrev put-ascii : tie.After-slice-known6 Inv-loop μ-loop → tie.After-put-within2 Inv-loop μ-loop
+put-ascii c = search needs
+
+abbrev ascii : tie.After-put-within2 Inv-loop μ-loop → tie.After-span-in-set Inv-loop μ-loop
+ascii c = search needs
+
+abbrev looping-ascii : tie.After-span-in-set Inv-loop μ-loop → tie.After-widened Inv-loop μ-loop
+looping-ascii c = search needs
+
+abbrev entry : tie.After-widened Inv-loop μ-loop → tie.Start Inv-loop μ-loop
+entry c = search needs
+
+abbrev turn : tie.After-widened Inv-loop μ-loop → tie.At-loop Inv-loop μ-loop
+turn c = search needs
+
 loop-again-2 : tie.Need-loop-again-2 Inv-loop μ-loop
-loop-again-2 c = search next-ascii
+loop-again-2 c =
+    let put = put-ascii c in
+    let columns = ascii put in
+    let read = looping-ascii columns in
+    let rooms = entry read .pre in
+    next-ascii _ _ _ _ _ _ _ _ _ (turn read .loop .inv) (rooms .2) (rooms .3) _ (read .widened .ensures) _ _ (columns .before .before .before .if2 .taken) (columns .before .before .in-set .ensures) (columns .before .if3 .left) (columns .span-in-set .ensures) _ _ (put .put-within2 .ensures)
 
 is-two-requires : tie.Need-is-two-requires Inv-loop μ-loop
 is-two-requires c κs = search needs
@@ -89,9 +104,6 @@ same-length-4 c = search needs
 
 returns-2 : tie.Need-returns-2 Inv-loop μ-loop
 returns-2 c = search scan-outside
-
-cast-put-within-3 : tie.Need-cast-put-within-3 Inv-loop μ-loop
-cast-put-within-3 c = search needs
 
 put-within-requires-3 : tie.Need-put-within-requires-3 Inv-loop μ-loop
 put-within-requires-3 c κs = search needs
@@ -141,9 +153,6 @@ same-length-8 c = search needs
 returns-4 : tie.Need-returns-4 Inv-loop μ-loop
 returns-4 c = search scan-outside
 
-cast-put-within-4 : tie.Need-cast-put-within-4 Inv-loop μ-loop
-cast-put-within-4 c = search needs
-
 put-within-requires-4 : tie.Need-put-within-requires-4 Inv-loop μ-loop
 put-within-requires-4 c κs = search needs
 
@@ -156,8 +165,22 @@ add-n-4 c = search needs
 loop-less-5 : tie.Need-loop-less-5 Inv-loop μ-loop
 loop-less-5 c = search needs
 
+abbrev put-wide : tie.After-slice-known10 Inv-loop μ-loop → tie.After-put-within4 Inv-loop μ-loop
+put-wide c = search needs
+
+abbrev wide : tie.After-put-within4 Inv-loop μ-loop → tie.Else8 Inv-loop μ-loop
+wide c = search needs
+
+abbrev looping-wide : tie.Else8 Inv-loop μ-loop → tie.After-widened Inv-loop μ-loop
+looping-wide c = search needs
+
 loop-again-5 : tie.Need-loop-again-5 Inv-loop μ-loop
-loop-again-5 c = search next-wide
+loop-again-5 c =
+    let put = put-wide c in
+    let stands = wide put in
+    let read = looping-wide stands in
+    let rooms = entry read .pre in
+    next-wide _ _ _ _ _ _ _ _ _ (turn read .loop .inv) (rooms .2) (rooms .3) _ (read .widened .ensures) _ (stands .if8 .left) (stands .before .is-three .ensures) (stands .before .before .if6 .left) _ _ (put .put-within4 .ensures)
 
 same-length-9 : tie.Need-same-length-9 Inv-loop μ-loop
 same-length-9 c = search needs
@@ -178,7 +201,6 @@ scan-line-spec =
     shared-slice-read-widened
     widened-requires
     within-requires
-    cast-put-within
     put-within-requires
     add-byte
     add-n
@@ -188,9 +210,8 @@ scan-line-spec =
     same-length
     same-length-2
     returns
-    add-t25
+    add-place
     span-in-set-requires
-    cast-put-within-2
     put-within-requires-2
     add-byte-2
     add-n-2
@@ -200,7 +221,6 @@ scan-line-spec =
     same-length-3
     same-length-4
     returns-2
-    cast-put-within-3
     put-within-requires-3
     add-byte-3
     add-n-3
@@ -217,7 +237,6 @@ scan-line-spec =
     same-length-7
     same-length-8
     returns-4
-    cast-put-within-4
     put-within-requires-4
     add-byte-5
     add-n-4

@@ -33,8 +33,8 @@ loop-less c = search needs
 loop-again : tie.Need-loop-again Inv-loop μ-loop
 loop-again c = search added-next
 
-cast-result : tie.Need-cast-result Inv-loop μ-loop
-cast-result c = search needs
+cast-columns : tie.Need-cast-columns Inv-loop μ-loop
+cast-columns c = search needs
 
 returns : tie.Need-returns Inv-loop μ-loop
 returns c = search (needs, added-all, added-few)
@@ -52,5 +52,5 @@ added-columns-spec =
     add-i
     loop-less
     loop-again
-    cast-result
+    cast-columns
     returns)

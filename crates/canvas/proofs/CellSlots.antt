@@ -9,7 +9,7 @@ use lib.ListN.{length, getD, length-map}
 use lib.Seq.{ext-getD}
 use borrow.Author.Tests.{eq-eqb}
 use Rattle.seq.specs.Lists.{upTo, any}
-use Rattle.seq.proofs.Tests.{true-not-false, refused, and-left, and-right}
+use Rattle.seq.proofs.Tests.{true-not-false, bool-refused, and-left, and-right}
 use Rattle.seq.proofs.Ranges.{length-range, mem-range, range-mem}
 use Rattle.seq.proofs.Positions.{getD-mem, getD-map, getD-made}
 use Rattle.seq.proofs.Searches.{any-mem, any-none, any-map, count-one-at}
@@ -172,7 +172,7 @@ module _ {v : Canvas} {n : ℕ} {rects : List ℕ} {rules : Rules} {cols : List 
         let (beside, l, low) = f in
         let inside = between-isInside (r .top) (r .bottom) y l low in
         let column : isEdge (r .left) (r .right) x ≡ false =
-        refused (isEdge (r .left) (r .right) x)
+        bool-refused (isEdge (r .left) (r .right) x)
         (λ t. true-false-clash (side-vertical k h y x (isEdge-end (r .left) (r .right) x t, l, low)) (first-no-vertical k h y x f)) in
         painted-is put (256 + k) n old (each-first k h f) k h
         (λ o. rw (end-off k h (first-no-horizontal k h y x f), inside, column, eq-eqb x (r .left + 1) beside))

@@ -9,7 +9,7 @@ use lib.Dec.{eqb}
 use lib.ListN.{length, getD}
 use borrow.Author.Tests.{eqb-true}
 use Rattle.seq.specs.Lists.{upTo, any}
-use Rattle.seq.proofs.Tests.{refused, and-left, and-right}
+use Rattle.seq.proofs.Tests.{bool-refused, and-left, and-right}
 use Rattle.seq.proofs.Ranges.{range-mem}
 use Rattle.seq.proofs.Searches.{any-agree}
 use Rattle.text.specs.Characters.{plus, colon}
@@ -70,7 +70,7 @@ module _ {v : Canvas} {n : ℕ} {rects : List ℕ} {rules : Rules} {cols : List 
   -- no colon stands on a corner, nor on a line that runs through a cell
   corner-no-colon : (y x : ℕ) → cornerAt v y x ≡ true → colonAt v y x ≡ false
   corner-no-colon y x h =
-      refused (colonAt v y x)
+      bool-refused (colonAt v y x)
       (λ e.
       let (q, c) = colon-on y x e in
       true-false-clash (rw q at h)
@@ -78,7 +78,7 @@ module _ {v : Canvas} {n : ℕ} {rects : List ℕ} {rules : Rules} {cols : List 
 
   inner-no-colon : (k : ℕ) → k < n → (y x : ℕ) → rectIn rects k .top < y → y < rectIn rects k .bottom → colonAt v y x ≡ false
   inner-no-colon k h y x l low =
-      refused (colonAt v y x)
+      bool-refused (colonAt v y x)
       (λ e.
       let (q, c) = colon-on y x e in
       let (top, bottom) = frame-of D k h (λ r. (r .top < y) × (y < r .bottom)) (l, low) in
@@ -124,5 +124,5 @@ module _ {v : Canvas} {n : ℕ} {rects : List ℕ} {rules : Rules} {cols : List 
         under-both y x (omega (arith, r .tall)) (omega (arith, r .across, r .wide)) (first-no-corner D k h y x at) (inner-no-colon k h y x l low)
         ∙ bordered-first D y x (codeAt canvas₀ y x) k h at
 
-    pub pictured : Pictured v n rects canvas
-    pictured = record { frames = D .frames; corner = corner; horizontal = horizontal; vertical = vertical; first = first }
+    pub canvas-pictured : Pictured v n rects canvas
+    canvas-pictured = record { frames = D .frames; corner = corner; horizontal = horizontal; vertical = vertical; first = first }

@@ -10,7 +10,7 @@ use native.Mathlib.Nat.{le-refl, eq-or-lt-of-le}
 use lib.Dec.{eqb, ltb}
 use borrow.Author.Tests.{ltb-true, eqb-true, lt-ltb, eq-eqb, ne-eqb}
 use Rattle.seq.specs.Lists.{any, count}
-use Rattle.seq.proofs.Tests.{true-not-false, and-left, and-right, and-intro, or-cases, or-left, or-right, or-none, refused}
+use Rattle.seq.proofs.Tests.{true-not-false, and-left, and-right, and-intro, or-cases, or-left, or-right, or-none, bool-refused}
 use Rattle.seq.proofs.Searches.{any-mem, mem-any, none-any, count-pick, count-one}
 use Rattle.grid.specs.Cover.{holds}
 use Rattle.grid.proofs.SkylineLaws.{Inside, inside-holds, holds-inside}
@@ -203,7 +203,7 @@ module _ {v : Canvas} (P : Tiled v) where
 
   module _ {b : Box} (m : List·Memᴰ b (v .boxes)) (y x : ℕ) (w : Within b y x) where
     free : (p : Box → Bool) → p b ≡ false → ((c : Box) → List·Memᴰ c (v .boxes) → p c ≡ true → Touch c y x) → any p (v .boxes) ≡ false
-    free p e t = none-any p (v .boxes) (λ c n. refused (p c) (λ h. true-not-false (sym h ∙ ap p (sym (box-touched m n y x w (t c n h))) ∙ e)))
+    free p e t = none-any p (v .boxes) (λ c n. bool-refused (p c) (λ h. true-not-false (sym h ∙ ap p (sym (box-touched m n y x w (t c n h))) ∙ e)))
 
     pub inside-no-corner : cornerAt v y x ≡ false
     unfolding cornerAt

@@ -20,7 +20,7 @@ use Rattle.grid.specs.Flat.{FlatDrawing, drawingContradicts, linesOf, joinText,
 use Rattle.grid.specs.LayoutCall.{LayoutSpace, spaceShort}
 use Rattle.grid.specs.TableCall.{TableSpace, startsShort, tableSpaceShort, tableShort, tableOver, readContradicts, tableAccepts, tableAnswer, tableAfterwards}
 use Rattle.grid.proofs.AnswerLaws.{accept-same, over-taken}
-use Rattle.grid.proofs.ReadLaws.{passed-if, passed-then, afterwards-accepted, handedOut-read, limited}
+use Rattle.grid.proofs.ReadLaws.{passed-if, passed-then, afterwards-accepted, handedOut-read, drawingTooLarge-limited}
 use Rattle.grid.proofs.FlatDrawingLaws.{joinText-length}
 use Rattle.grid.proofs.FlatTableLaws.{table-again}
 use Rattle.drawing.specs.Plain.{canvasOf, canvasLines}
@@ -42,7 +42,7 @@ not-shorter buffer result n h k = le-ltb (length buffer) (length result) (omega 
 small-roomy : (ls : List Line) → drawingTooLarge ls ≡ false → (out : DrawingArrays) → DrawingRoom out → drawingShort out (flatDrawing ls) ≡ false
 unfolding drawingShort flatDrawing
 small-roomy ls small out room =
-    let few = limited ls small in
+    let few = drawingTooLarge-limited ls small in
     let lengths = map (λ (line : Line). length (line .text)) ls in
     let columns = map (λ (line : Line). line .column) ls in
     let text = joinText (map (λ (line : Line). line .text) ls) in

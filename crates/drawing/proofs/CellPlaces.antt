@@ -10,7 +10,7 @@ use lib.Dec.{leb, ltb}
 use lib.ListN.{length, getD, drop}
 use borrow.Author.Tests.{leb-true, lt-ltb, le-leb}
 use Rattle.seq.specs.Lists.{all, count, neighbours}
-use Rattle.seq.proofs.Tests.{and-left, and-right, and-intro, refused, bit, le-or-lt, lex-above, lex-beside, lex-cases, lex-trans}
+use Rattle.seq.proofs.Tests.{and-left, and-right, and-intro, bool-refused, bit, le-or-lt, lex-above, lex-beside, lex-cases, lex-trans}
 use Rattle.seq.proofs.Searches.{mem-all, count-cons, count-mem, count-pick}
 use Rattle.seq.proofs.Sorted.{Strict, sorted-tail, sorted-head}
 use Rattle.grid.specs.Values.{TableCell, Table}
@@ -23,7 +23,7 @@ pub comesBefore-strict : Strict comesBefore
 comesBefore-strict =
     record {
       irreflexive = λ a.
-          refused (comesBefore a a) (λ e.
+          bool-refused (comesBefore a a) (λ e.
           ⊎-elim (λ (h : a .row < a .row). omega arith) (λ (h : (a .row ≡ a .row) × (a .column < a .column)). omega (arith, h .1))
           (lex-cases (a .row) (a .row) (a .column) (a .column) e));
       transitive = λ a b c. lex-trans (a .row) (b .row) (c .row) (a .column) (b .column) (c .column);

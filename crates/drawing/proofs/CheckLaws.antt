@@ -27,9 +27,9 @@ use Rattle.drawing.proofs.KeptLaws.{keepsRules-kept}
 use Rattle.drawing.proofs.CanvasLaws.{Fine}
 
 -- ---- a table that passes 1, 2, 3 and 8
-pub fine : (o : ℕ) (t : Table) → tableEmpty t ≡ false → tableTooLarge o t ≡ false → tableOutsideSet t ≡ none → keepsRules t ≡ true → Fine t
+pub checkTable-fine : (o : ℕ) (t : Table) → tableEmpty t ≡ false → tableTooLarge o t ≡ false → tableOutsideSet t ≡ none → keepsRules t ≡ true → Fine t
 unfolding tableEmpty tableOutsideSet
-fine o t notEmpty notTooLarge inSet rules =
+checkTable-fine o t notEmpty notTooLarge inSet rules =
     let columns = isEmpty (t .columns) in
     let rows = isEmpty (t .sections) in
     let cells = isEmpty (t .cells) in

@@ -10,14 +10,14 @@ use Rattle.grid.specs.Layout.{layoutOf}
 use Rattle.grid.specs.Cut.{tableOf}
 use Rattle.grid.specs.Read.{readTable}
 use Rattle.grid.specs.Same.{normal, Same}
-use Rattle.grid.proofs.ReadLaws.{accept-not-refuse, passed, table-read}
+use Rattle.grid.proofs.ReadLaws.{accept-not-refuse, readRects-passed, table-read}
 use Rattle.drawing.specs.Plain.{canvasOf, canvasLines, drawn}
 use Rattle.drawing.specs.Redraw.{redrawCanvas, redraw}
 use Rattle.drawing.specs.RoundTrip.{Keeps, ReadsBack, Refuses}
 use Rattle.drawing.proofs.ReadLimits.{read-headed}
 use Rattle.drawing.proofs.GlyphRows.{drawn-lines}
 use Rattle.drawing.proofs.CellsBack.{lines, g}
-use Rattle.drawing.proofs.SectionsBack.{headed}
+use Rattle.drawing.proofs.SectionsBack.{footWithoutHead-headed}
 use Rattle.drawing.proofs.SameBack.{same-aligned, same-small, same-unsplit, same-headed}
 use Rattle.drawing.proofs.RoundTrip.{keeps-fine, keeps-passes, Passes, accepted-passes, passes-reads}
 
@@ -27,13 +27,13 @@ back-passes o t k (u, e, s) =
     let F = keeps-fine k in
     let read : readTable (lines F o) ≡ accept u = ap readTable (sym (drawn-lines o t)) ∙ e in
     let (rs, found, made) = table-read (lines F o) u read in
-    let checks = passed (lines F o) rs found in
+    let checks = readRects-passed (lines F o) rs found in
     let same : Same (tableOf (lines F o) (layoutOf (lines F o) (g F o) rs)) t = ap normal (sym made) ∙ s in
     let no-foot = same-headed u t s (read-headed (lines F o) u read) in
     record {
       keeps = k;
       headed = no-foot;
-      aligned = same-aligned F o rs checks same (headed F o no-foot);
+      aligned = same-aligned F o rs checks same (footWithoutHead-headed F o no-foot);
       notTooLarge = same-small F o rs checks same;
       unsplit = same-unsplit F o rs checks same;
     }

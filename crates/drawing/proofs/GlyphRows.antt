@@ -10,7 +10,7 @@ use lib.Dec.{eqb, ltb}
 use borrow.Author.Tests.{eqb-true, ne-eqb, lt-ltb}
 use lib.ListN.{length, getD, length-map}
 use Rattle.seq.specs.Lists.{range, upTo, any}
-use Rattle.seq.proofs.Tests.{refused, and-intro, and-false, or-right}
+use Rattle.seq.proofs.Tests.{bool-refused, and-intro, and-false, or-right}
 use Rattle.seq.proofs.Ranges.{length-range}
 use Rattle.seq.proofs.Positions.{getD-made}
 use Rattle.text.specs.Characters.{space, plus, colon}
@@ -172,7 +172,7 @@ module _ {v : Canvas} (L : Lined v) (o : ℕ) where
 
     -- on a side of the box no border runs across
     pub no-across : (y x : ℕ) → b .frame .top < y → y < b .frame .bottom → Side b x → horizontalAt v y x ≡ false
-    no-across y x u w d = refused (horizontalAt v y x) (λ h. let t = horizontalAt-box v y x h in clash (t .0) (t .1) (t .2) (t .3) (t .4)) where
+    no-across y x u w d = bool-refused (horizontalAt v y x) (λ h. let t = horizontalAt-box v y x h in clash (t .0) (t .1) (t .2) (t .3) (t .4)) where
       clash : (c : Box) → List·Memᴰ c (v .boxes) → End (c .frame .top) (c .frame .bottom) y → c .frame .left < x → x < c .frame .right → ⊥
       clash c n e l r =
           let q = same-square n y x u w d l r e in
@@ -182,7 +182,7 @@ module _ {v : Canvas} (L : Lined v) (o : ℕ) where
 
     -- a line that runs inside the box is no rule
     pub ruleAt-inner : (y : ℕ) → b .frame .top < y → y < b .frame .bottom → ruleAt o v y ≡ false
-    ruleAt-inner y u w = no-rule y (omega (arith, s .low)) (λ e. omega arith) (refused (any (eqb y) (v .rules)) (λ h. L .clear y h b m u w))
+    ruleAt-inner y u w = no-rule y (omega (arith, s .low)) (λ e. omega arith) (bool-refused (any (eqb y) (v .rules)) (λ h. L .clear y h b m u w))
 
     glyphAt-vertical : (y x : ℕ) → b .frame .top < y → y < b .frame .bottom → Side b x → x < W → vertical (glyphAt g y x) ≡ true
     unfolding edgeByte glyphOf

@@ -15,7 +15,7 @@ use lib.Seq.{drop-cons}
 use Rattle.seq.specs.Lists.{sum, count, lastD, neighbours}
 use Rattle.seq.proofs.Tests.{bool-same, le-or-lt, and-intro}
 use Rattle.seq.proofs.Sorted.{sorted-same}
-use Rattle.seq.proofs.Rising.{rising-strict, position, position-at}
+use Rattle.seq.proofs.Rising.{rising-strict, rising-position, position-at}
 use Rattle.grid.specs.Layout.{indexOf}
 use Rattle.drawing.specs.Sizes.{Need, have, offsetsFrom, offsets}
 
@@ -111,7 +111,7 @@ pub offsets-only : (ls ws : List ℕ) → neighbours ltb ls ≡ true → ((x : �
 offsets-only ls ws rise there all = sorted-same ltb rising-strict ls (offsets ws) rise (offsets-rise 0 ws) there back where
   back : (x : ℕ) → List·Memᴰ x (offsets ws) → List·Memᴰ x ls
   back x m =
-      let p = position (offsets ws) (offsets-rise 0 ws) m in
+      let p = rising-position (offsets ws) (offsets-rise 0 ws) m in
       subst (λ (z : ℕ). List·Memᴰ z ls) (p .here) (all (count (λ n. ltb n x) (offsets ws)) (omega (arith, p .inside, offsets-length 0 ws)))
 
 -- the number of an offset

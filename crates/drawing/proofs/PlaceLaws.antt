@@ -8,7 +8,7 @@ use mathlib.Core.List.{[]}
 use native.Mathlib.Omega.{arith}
 use lib.ListN.{length}
 use Rattle.seq.specs.Lists.{all}
-use Rattle.seq.proofs.Tests.{true-not-false, and-left, and-right, and-intro, refused}
+use Rattle.seq.proofs.Tests.{true-not-false, and-left, and-right, and-intro, bool-refused}
 use Rattle.seq.proofs.Searches.{all-range, range-all, firstAt-some}
 use Rattle.seq.proofs.Gathered.{first-at}
 use Rattle.seq.proofs.Finds.{first-in, range-any, find-first, find-in}
@@ -91,7 +91,7 @@ module _ {t : Table} (F : Fine t) (o : ℕ) where
   C = length (canvasOf t .columns)
 
   not-misplaced : {k : ℕ} → k < C → (Cornerless (canvasOf t) k → ⊥) → isMisplaced k ≡ false
-  not-misplaced {k} u h = refused (isMisplaced k) (λ e. h (misplaced-cornerless F o k u e))
+  not-misplaced {k} u h = bool-refused (isMisplaced k) (λ e. h (misplaced-cornerless F o k u e))
 
   -- Refusal 10's search finds the lowest aligned column without a corner.
   pub misaligned-lowest : (k : ℕ) → misaligned (canvasOf t) ≡ some k → LowestCornerless (canvasOf t) k
@@ -137,4 +137,4 @@ module _ (v : Canvas) (g : Grid) where
   unfolding splitCell
   first-splitCell k s =
       first-at boxSplits (v .boxes) noBox k (s .box) (split-splits g (frameAt v k) (s .here))
-      (λ j u. refused (splits g (frameAt v j)) (λ e. s .before j u (splits-split g (frameAt v j) e)))
+      (λ j u. bool-refused (splits g (frameAt v j)) (λ e. s .before j u (splits-split g (frameAt v j) e)))

@@ -12,7 +12,7 @@ use Rattle.seq.specs.Lists.{sum, any, count}
 use Rattle.seq.proofs.Tests.{true-not-false, or-none}
 use Rattle.seq.proofs.ListsLaws.{length-some}
 use Rattle.seq.proofs.Searches.{any-mem, mem-any, count-few, count-none}
-use Rattle.seq.proofs.Rising.{Position, position}
+use Rattle.seq.proofs.Rising.{Position, rising-position}
 use Rattle.seq.proofs.FlatMaps.{mem-flatMap, flatMap-map, length-flatMap-sum}
 use Rattle.seq.proofs.Gathered.{first-nowhere}
 use Rattle.seq.proofs.Positions.{getD-mem}
@@ -29,8 +29,8 @@ use Rattle.grid.specs.Read.{readTable}
 use Rattle.grid.specs.Flat.{tableLines, tableSizes, tableArrays}
 use Rattle.grid.specs.declared.GridTableSection.{GridTableSection}
 use Rattle.grid.specs.declared.GridTableSection.the-variants.{Head, Body, Foot}
-use Rattle.grid.proofs.LayoutLaws.{between-mem, columnLine-inside, columnLines-few, rowLines-few, rowLines-rise, top-line, holder}
-use Rattle.grid.proofs.ReadLaws.{Passed, height-of, read-cover, read-few, read-limited, read-narrow, passed, table-read}
+use Rattle.grid.proofs.LayoutLaws.{between-mem, columnLine-inside, columnLines-few, rowLines-few, rowLines-rise, top-line, cover-holder}
+use Rattle.grid.proofs.ReadLaws.{Passed, height-of, read-cover, read-few, read-limited, read-narrow, readRects-passed, table-read}
 use Rattle.grid.proofs.SeparatorLaws.{separator-later}
 use Rattle.grid.proofs.SectionLaws.{foot-head}
 use Rattle.grid.proofs.FlatTableLaws.{table-fits, table-again}
@@ -41,7 +41,7 @@ use Rattle.drawing.specs.Redraw.{tableEmpty, shapeTooLarge, linesTooLarg
 use Rattle.drawing.specs.RedrawCall.{RedrawSpace, DrawingArrays, redrawSpaceShort, redrawInto, redrawAccepts}
 use Rattle.drawing.specs.Plain.{canvasOf, canvasLines}
 use Rattle.drawing.proofs.LimitLaws.{limits-shape, limits-lines}
-use Rattle.drawing.proofs.ReadRules.{table, cell, table-cells, table-columns, table-rows, table-sections, section-of, stands, read-keeps}
+use Rattle.drawing.proofs.ReadRules.{table, cell, table-cells, table-columns, table-rows, table-sections, section-of, tableCell-stands, read-keeps}
 
 is-foot : (s : GridTableSection) → isFoot s ≡ true → s ≡ Foot
 is-foot Head e = absurd (true-not-false (sym e))
@@ -65,8 +65,8 @@ module _ (lines : List Line) (rs : List Rect) (checks : Passed lines rs) where
   not-empty : tableEmpty t ≡ false
   unfolding tableEmpty indexOf
   not-empty =
-      let (r, m, inside) = holder cover 0 0 (cover .tall) (cover .wide) in
-      let p = stands lines g rs cover m in
+      let (r, m, inside) = cover-holder cover 0 0 (cover .tall) (cover .wide) in
+      let p = tableCell-stands lines g rs cover m in
       let rects : 0 < length rs = omega (arith, cover .once 0 0 (cover .tall) (cover .wide), count-few (holds 0 0) rs) in
       or-none
       (or-none (length-some (t .columns) (omega (arith, table-columns lines g rs cover, p .wide, p .right .inside)))
@@ -153,17 +153,17 @@ module _ (lines : List Line) (rs : List Rect) (checks : Passed lines rs) where
   -- ---- 9
   first-line : getD (rowLines g rs) 0 0 ≡ 0
   first-line =
-      let (r, m, inside) = holder cover 0 0 (cover .tall) (cover .wide) in
+      let (r, m, inside) = cover-holder cover 0 0 (cover .tall) (cover .wide) in
       let top : r .top ≡ 0 = omega (arith, inside .below) in
-      let p : Position (rowLines g rs) 0 = position (rowLines g rs) (rowLines-rise g rs) (subst (λ (y : ℕ). List·Memᴰ y (rowLines g rs)) top (top-line cover m)) in
+      let p : Position (rowLines g rs) 0 = rising-position (rowLines g rs) (rowLines-rise g rs) (subst (λ (y : ℕ). List·Memᴰ y (rowLines g rs)) top (top-line cover m)) in
       let none-before : count (λ n. ltb n 0) (rowLines g rs) ≡ 0 = count-none (λ n. ltb n 0) (rowLines g rs) (λ n _ e. omega (arith, ltb-true n 0 e)) in
       rw none-before at (p .here)
 
   head-row : (y : ℕ) → sectionAt g y ≡ Foot → any isHead (t .sections) ≡ true
   unfolding indexOf
   head-row y e =
-      let (r, m, inside) = holder cover 0 0 (cover .tall) (cover .wide) in
-      let p = stands lines g rs cover m in
+      let (r, m, inside) = cover-holder cover 0 0 (cover .tall) (cover .wide) in
+      let p = tableCell-stands lines g rs cover m in
       let rows : 1 < length (rowLines g rs) = omega (arith, p .tall, p .bottom .inside) in
       let first : getD (t .sections) 0 Body ≡ Head =
       section-of lines g rs cover 0 rows ∙ ap (sectionAt g) first-line ∙ foot-head g (λ s n. separator-later lines n) y e in
@@ -186,23 +186,23 @@ module _ (lines : List Line) (rs : List Rect) (checks : Passed lines rs) where
 module _ (lines : List Line) (t : Table) (e : readTable lines ≡ accept t) where
   -- A table that is read has some columns, rows and cells.
   pub read-not-empty : tableEmpty t ≡ false
-  read-not-empty = let (rs, traced, made) = table-read lines t e in rw made (not-empty lines rs (passed lines rs traced))
+  read-not-empty = let (rs, traced, made) = table-read lines t e in rw made (not-empty lines rs (readRects-passed lines rs traced))
 
   -- It keeps every limit.
   pub read-not-too-large : (origin : ℕ) → origin ≤ 255 → tableTooLarge origin t ≡ false
   unfolding tableTooLarge
   read-not-too-large origin h =
       let (rs, traced, made) = table-read lines t e in
-      let checks = passed lines rs traced in
+      let checks = readRects-passed lines rs traced in
       rw made (or-none (or-none (le-ltb _ origin h) (shape-small lines rs checks)) (lines-small lines rs checks))
 
   -- Each of its lines is UTF-8, with every character in the set.
   pub read-in-set : tableOutsideSet t ≡ none
-  read-in-set = let (rs, traced, made) = table-read lines t e in rw made (in-set lines rs (passed lines rs traced))
+  read-in-set = let (rs, traced, made) = table-read lines t e in rw made (in-set lines rs (readRects-passed lines rs traced))
 
   -- It has no Foot row without a Head row.
   pub read-headed : footWithoutHead t ≡ false
-  read-headed = let (rs, traced, made) = table-read lines t e in rw made (headed lines rs (passed lines rs traced))
+  read-headed = let (rs, traced, made) = table-read lines t e in rw made (headed lines rs (readRects-passed lines rs traced))
 
   -- So it passes every check up to 8.
   pub read-passes : {A : Type 0} (origin : ℕ) → origin ≤ 255 → (next : Answer A) → checkTable origin t next ≡ next

@@ -11,7 +11,7 @@ use Rattle.seq.specs.Lists.{range, upTo, all, any, count, neighbours}
 use Rattle.seq.proofs.Tests.{true-not-false, and-intro}
 use Rattle.seq.proofs.Searches.{mem-all, mem-any, all-map, any-map, count-map, count-agree, range-all, neighbours-map, neighbours-imply}
 use Rattle.seq.proofs.Positions.{getD-map}
-use Rattle.seq.proofs.Rising.{Position, position, position-leb, position-ltb, position-lt}
+use Rattle.seq.proofs.Rising.{Position, rising-position, position-leb, position-ltb, position-lt}
 use Rattle.grid.specs.Values.{Line, Rect, Row, TableCell, Table}
 use Rattle.grid.specs.Answer.{accept}
 use Rattle.grid.specs.Slots.{Grid, gridOf}
@@ -23,7 +23,7 @@ use Rattle.grid.specs.declared.GridTableSection.{GridTableSection}
 use Rattle.grid.specs.declared.GridTableSection.the-variants.{Head, Body, Foot}
 use Rattle.grid.proofs.CoverTheorems.{traced-covers}
 use Rattle.grid.proofs.LayoutLaws.{length-between, getD-between, between-rises, columnLines-rise, rowLines-rise, left-line, right-line, top-line, bottom-line, column-inside, row-inside, column-starts, row-starts, cells-ordered}
-use Rattle.grid.proofs.ReadLaws.{passed, table-read}
+use Rattle.grid.proofs.ReadLaws.{readRects-passed, table-read}
 use Rattle.grid.proofs.SectionLaws.{above-before, from-after, same-section}
 use Rattle.grid.proofs.SeparatorLaws.{Uncut, read-uncut}
 use Rattle.drawing.specs.GridRules.{mayFollow, comesBefore, inOrder, staysInside, allInside, holdsSquare, coverOnce, allStart, sectionsRun, sameSection, noneCrosses, keepsRules}
@@ -76,7 +76,7 @@ module _ (lines : List Line) (g : Grid) (rs : List Rect) (cover : Cover g rs) wh
   unfolding tableOf layoutOf rowsRead
   table-rows = simp (length-map, length-between)
 
-  -- where the cell of a rectangle stands
+  -- where the cell of a rectangle tableCell-stands
   pub record Stands (r : Rect) : Type 0 where
     pub left : Position columns (r .left)
     pub right : Position columns (r .right)
@@ -87,17 +87,17 @@ module _ (lines : List Line) (g : Grid) (rs : List Rect) (cover : Cover g rs) wh
     pub columnEnd : cell r .column + cell r .colspan ≡ indexOf columns (r .right)
     pub rowEnd : cell r .row + cell r .rowspan ≡ indexOf rows (r .bottom)
 
-  pub stands : {r : Rect} → List·Memᴰ r rs → Stands r
+  pub tableCell-stands : {r : Rect} → List·Memᴰ r rs → Stands r
   unfolding tableCell cellRead indexOf
-  stands {r} m =
+  tableCell-stands {r} m =
       let h = cover .first r m .bordered in
       let across = position-lt columns (columnLines-rise g rs) (left-line cover m) (right-line cover m) (h .leftBeforeRight) in
       let deep = position-lt rows (rowLines-rise g rs) (top-line cover m) (bottom-line cover m) (h .topAboveBottom) in
       record {
-        left = position columns (columnLines-rise g rs) (left-line cover m);
-        right = position columns (columnLines-rise g rs) (right-line cover m);
-        top = position rows (rowLines-rise g rs) (top-line cover m);
-        bottom = position rows (rowLines-rise g rs) (bottom-line cover m);
+        left = rising-position columns (columnLines-rise g rs) (left-line cover m);
+        right = rising-position columns (columnLines-rise g rs) (right-line cover m);
+        top = rising-position rows (rowLines-rise g rs) (top-line cover m);
+        bottom = rising-position rows (rowLines-rise g rs) (bottom-line cover m);
         wide = across;
         tall = deep;
         columnEnd = omega arith;
@@ -115,7 +115,7 @@ module _ (lines : List Line) (g : Grid) (rs : List Rect) (cover : Cover g rs) wh
   all-inside = rw table-cells (all-map cell (staysInside table) rs ∙ mem-all (λ r. staysInside table (cell r)) rs inside) where
     inside : (r : Rect) → List·Memᴰ r rs → staysInside table (cell r) ≡ true
     inside r m =
-        let p = stands m in
+        let p = tableCell-stands m in
         lies-stays table (cell r)
         (record {
           broad = omega (arith, p .wide, p .columnEnd);
@@ -129,7 +129,7 @@ module _ (lines : List Line) (g : Grid) (rs : List Rect) (cover : Cover g rs) wh
       → holdsSquare i k (cell r) ≡ holds (getD rows i 0) (getD columns k 0) r
   unfolding tableCell cellRead indexOf
   holds-as {r} m i k hi hk =
-      let p = stands m in
+      let p = tableCell-stands m in
       let rise = rowLines-rise g rs in
       let widen = columnLines-rise g rs in
       ap₂ _&&_
@@ -201,7 +201,7 @@ module _ (lines : List Line) (g : Grid) (rs : List Rect) (cover : Cover g rs) wh
         → sameSection (getD (table .sections) (cell r .row) Body) (getD (table .sections) i Body) ≡ true
     unfolding tableCell cellRead indexOf
     row-section {r} m i low high =
-        let p = stands m in
+        let p = tableCell-stands m in
         let rise = rowLines-rise g rs in
         let inside : suc i < length rows = omega (arith, p .rowEnd, p .bottom .inside) in
         let y = getD rows i 0 in
@@ -230,6 +230,6 @@ pub read-keeps : (lines : List Line) (t : Table) → readTable lines ≡ accept 
 read-keeps lines t e =
     let read = table-read lines t e in
     let rs = read .0 in
-    let checks = passed lines rs (read .1) in
+    let checks = readRects-passed lines rs (read .1) in
     let traced = traced-covers (gridOf lines) rs (checks .traced) in
     rw (read .2) (table-keeps lines (gridOf lines) rs (traced .0) (read-uncut lines rs checks) (traced .2))

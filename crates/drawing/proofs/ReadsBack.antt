@@ -37,7 +37,7 @@ use Rattle.drawing.proofs.CanvasLaws.{Fine, alignmentIn, xAt, canvas-co
 use Rattle.drawing.proofs.CheckLaws.{misaligned-none, splitCell-none}
 use Rattle.drawing.proofs.GlyphRows.{canvasLines-length, canvasLines-at, trimmedAt-flat, rows-flat, grid-width, zero-low}
 use Rattle.drawing.proofs.CellsBack.{lines, g, L, Unsplit, frames-traced, cells-same}
-use Rattle.drawing.proofs.SectionsBack.{Headed, headed, rules-below, sections-back}
+use Rattle.drawing.proofs.SectionsBack.{Headed, footWithoutHead-headed, rules-below, sections-back}
 use Rattle.drawing.proofs.AlignmentsBack.{columns-length, alignment-back}
 use Rattle.drawing.proofs.SameDrawn.{bareColumn}
 
@@ -134,5 +134,5 @@ pub passes-readBack : {t : Table} (F : Fine t) (o : ℕ) → footWithoutHead t �
     → splitCell (canvasOf t) (g F o) ≡ none → (u : Table) × (readTable (lines F o) ≡ accept u) × Same u t
 passes-readBack {t} F o h₉ h₁₀ h₂ h₁₁ =
     let unsplit = splitCell-unsplit F o h₁₁ in
-    let k = headed F o h₉ in
+    let k = footWithoutHead-headed F o h₉ in
     (readBack F o unsplit, drawing-reads F o unsplit (rules-below F o k) h₂, readBack-same F o unsplit k (alignments-kept t h₁₀))

@@ -13,7 +13,7 @@ use Rattle.drawing.proofs.LimitLaws.{tableTooLarge-parts}
 use Rattle.drawing.proofs.CanvasLaws.{Fine}
 use Rattle.drawing.proofs.GlyphRows.{drawn-lines}
 use Rattle.drawing.proofs.CellsBack.{Unsplit}
-use Rattle.drawing.proofs.SectionsBack.{Headed, headed, rules-below}
+use Rattle.drawing.proofs.SectionsBack.{Headed, footWithoutHead-headed, rules-below}
 use Rattle.drawing.proofs.ReadsBack.{readBack, drawing-reads, alignments-kept, splitCell-unsplit}
 use Rattle.drawing.proofs.WidthsBack.{readBack-drawn}
 use Rattle.drawing.proofs.RoundTrip.{keeps-fine, Passes, accepted-passes}
@@ -25,7 +25,7 @@ back-drawn : (o : ℕ) (t : Table) → Passes o t → (w : Table) → readTable 
 back-drawn o t p w e =
     let F : Fine t = keeps-fine (p .keeps) in
     let unsplit : Unsplit F o = splitCell-unsplit F o (p .unsplit) in
-    let k : Headed F o = headed F o (p .headed) in
+    let k : Headed F o = footWithoutHead-headed F o (p .headed) in
     let read = ap readTable (drawn-lines o t) ∙ drawing-reads F o unsplit (rules-below F o k) (p .notTooLarge) in
     let same : readBack F o unsplit ≡ w = accept-same (sym read ∙ e) in
     ap (drawn o) (sym same) ∙ readBack-drawn F o unsplit k (alignments-kept t (p .aligned))

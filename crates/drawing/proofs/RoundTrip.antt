@@ -18,12 +18,12 @@ use Rattle.drawing.specs.Plain.{canvasOf, canvasLines, drawn}
 use Rattle.drawing.specs.Redraw.{tableEmpty, tableTooLarge, tableOutsideSet, footWithoutHead, misaligned, drawnTooLarge, splitCell, redrawCanvas, checkTable, redraw}
 use Rattle.drawing.specs.RoundTrip.{Keeps, ReadsBack}
 use Rattle.drawing.proofs.CanvasLaws.{Fine}
-use Rattle.drawing.proofs.CheckLaws.{fine}
+use Rattle.drawing.proofs.CheckLaws.{checkTable-fine}
 use Rattle.drawing.proofs.GlyphRows.{drawn-lines}
 use Rattle.drawing.proofs.ReadsBack.{passes-readBack}
 
 pub keeps-fine : {o : ℕ} {t : Table} → Keeps o t → Fine t
-keeps-fine {o} {t} k = fine o t (k .notEmpty) (k .notTooLarge) (k .inSet) (k .rules)
+keeps-fine {o} {t} k = checkTable-fine o t (k .notEmpty) (k .notTooLarge) (k .inSet) (k .rules)
 
 -- `Keeps` is exactly: the checks up to 8 let the table pass
 pub keeps-passes : {A : Type 0} (o : ℕ) (t : Table) (next : Answer A) → Keeps o t → checkTable o t next ≡ next

@@ -13,7 +13,7 @@ use lib.Dec.{eqb}
 use borrow.Author.Tests.{eqb-true, eqb-false, eq-eqb, ne-eqb}
 use lib.ListN.{length, getD, replicate}
 use Rattle.seq.specs.Lists.{range, sum, any}
-use Rattle.seq.proofs.Tests.{true-not-false, cond-either, and-left, and-right, and-intro, refused, le-or-lt}
+use Rattle.seq.proofs.Tests.{true-not-false, cond-either, and-left, and-right, and-intro, bool-refused, le-or-lt}
 use Rattle.seq.proofs.Ranges.{range-split}
 use Rattle.seq.proofs.Finds.{find-only, find-nothing}
 use Rattle.seq.proofs.FlatMaps.{flatMap-append}
@@ -143,7 +143,7 @@ module _ {v : Canvas} (P : Tiled v) (o : ℕ) {b : Box} (m : List·Memᴰ b (v .
   starts-first x i true e = find-only (startsAt x) m (and-intro e (between-isInside _ _ y u w)) (λ c n h. starts-touch x c n i h)
   starts-first x i false e =
       find-nothing (startsAt x) (v .boxes)
-      (λ c n. refused (startsAt x c) (λ h. not-later x c (omega (arith, i .left, eqb-false x (b .frame .left + 1) e)) h (starts-touch x c n i h)))
+      (λ c n. bool-refused (startsAt x c) (λ h. not-later x c (omega (arith, i .left, eqb-false x (b .frame .left + 1) e)) h (starts-touch x c n i h)))
 
   -- Inside a box, what a column puts down depends on the box's lines only at the first inner column: that one puts down the whole inner
   -- line, the others nothing.

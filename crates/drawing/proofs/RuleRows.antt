@@ -11,7 +11,7 @@ use lib.Dec.{eqb}
 use borrow.Author.Tests.{eqb-true, eqb-false, ne-eqb}
 use lib.ListN.{length}
 use Rattle.seq.specs.Lists.{range, upTo, any}
-use Rattle.seq.proofs.Tests.{true-not-false, bool-cases, cond-either, refused, or-cases}
+use Rattle.seq.proofs.Tests.{true-not-false, bool-cases, cond-either, bool-refused, or-cases}
 use Rattle.seq.proofs.Walks.{or-false}
 use Rattle.text.specs.Characters.{space, plus, colon}
 use Rattle.text.specs.Rule.{isRule}
@@ -54,7 +54,7 @@ module _ {v : Canvas} (L : Lined v) where
   -- two corners of a line are never side by side
   pub corners-apart : (y x : ℕ) → cornerAt v y x ≡ true → cornerAt v y (x + 1) ≡ false
   corners-apart y x h =
-      refused (cornerAt v y (x + 1))
+      bool-refused (cornerAt v y (x + 1))
       (λ k.
       let b = cornerAt-box v y x h in
       let c = cornerAt-box v y (x + 1) k in
@@ -69,7 +69,7 @@ module _ {v : Canvas} (L : Lined v) where
   clear-border y u c x w = ⊎-elim (λ h. h) (λ t. absurd (c (t .0) (t .1) (t .2 .top) (t .2 .bottom))) (border-or-inside P y x u w)
 
   clear-vertical : (y x : ℕ) → Clear y → verticalAt v y x ≡ false
-  clear-vertical y x c = refused (verticalAt v y x) (λ h. let t = verticalAt-box v y x h in c (t .0) (t .1) (t .3) (t .4))
+  clear-vertical y x c = bool-refused (verticalAt v y x) (λ h. let t = verticalAt-box v y x h in c (t .0) (t .1) (t .3) (t .4))
 
   pub flat-clear : (o y : ℕ) → y < canvasHeight v → Clear y → (n a : ℕ) → a + n ≤ canvasWidth v → flat o v y a n ≡ map (edgeByte v y) (range a n)
   unfolding flat flatMap range
@@ -224,10 +224,10 @@ module _ {v : Canvas} (L : Lined v) where
     not-aligned = ne-eqb _ _ (λ e. ⊎-elim (λ z. n (e ∙ z)) (λ z. true-not-false (sym (rw (← e) at z) ∙ h)) (L .aligned))
 
     no-corner : cornerAt v y 1 ≡ false
-    no-corner = refused (cornerAt v y 1) (λ k. let t = cornerAt-box v y 1 k in not-one (t .0) (t .1) (t .3))
+    no-corner = bool-refused (cornerAt v y 1) (λ k. let t = cornerAt-box v y 1 k in not-one (t .0) (t .1) (t .3))
 
     no-vertical : verticalAt v y 1 ≡ false
-    no-vertical = refused (verticalAt v y 1) (λ k. let t = verticalAt-box v y 1 k in not-one (t .0) (t .1) (t .2))
+    no-vertical = bool-refused (verticalAt v y 1) (λ k. let t = verticalAt-box v y 1 k in not-one (t .0) (t .1) (t .2))
 
     second : (r : List ℕ) × ((putDown o v y 1 ≡ dash ∷ r) ⊎ (putDown o v y 1 ≡ space ∷ r))
     unfolding edgeByte borderByte colonAt border innerLine

@@ -13,7 +13,7 @@ use borrow.Author.Tests.{eqb-true, eqb-false, eq-eqb, lt-ltb, le-ltb, le-leb, lt
 use lib.ListN.{length, getD}
 use lib.Seq.{ext-getD}
 use Rattle.seq.specs.Lists.{upTo, any, select, count, orDefault, neighbours}
-use Rattle.seq.proofs.Tests.{true-not-false, and-intro, refused, le-or-lt, bool-cases}
+use Rattle.seq.proofs.Tests.{true-not-false, and-intro, bool-refused, le-or-lt, bool-cases}
 use Rattle.seq.proofs.Ranges.{mem-range, range-mem}
 use Rattle.seq.proofs.Searches.{any-mem, mem-any, any-eqb, eqb-any, select-mem, mem-select, count-mem, count-pick, count-few}
 use Rattle.seq.proofs.Sorted.{sorted-same}
@@ -168,19 +168,19 @@ module _ {t : Table} (F : Fine t) (o : ℕ) where
   abbrev pub Headed : Type 0
   Headed = 0 < n → 0 < h
 
-  pub headed : footWithoutHead t ≡ false → Headed
+  pub footWithoutHead-headed : footWithoutHead t ≡ false → Headed
   unfolding footWithoutHead
-  headed q footed = ⊎-elim (λ (z : h ≤ 0). absurd (true-not-false (sym (and-intro foot (ap not (head z))) ∙ q))) (λ z. z) (le-or-lt h 0) where
+  footWithoutHead-headed q footed = ⊎-elim (λ (z : h ≤ 0). absurd (true-not-false (sym (and-intro foot (ap not (head z))) ∙ q))) (λ z. z) (le-or-lt h 0) where
     foot : any isFoot ss ≡ true
     foot = let (s, m, f) = count-pick isFoot ss footed in mem-any isFoot m f
 
     head : h ≤ 0 → any isHead ss ≡ false
-    head z = refused (any isHead ss) (λ k. let (s, m, f) = any-mem isHead ss k in omega (arith, count-mem isHead m f))
+    head z = bool-refused (any isHead ss) (λ k. let (s, m, f) = any-mem isHead ss k in omega (arith, count-mem isHead m f))
 
   -- line 0 bears no `=`
   pub rules-below : Headed → any (eqb 0) (v .rules) ≡ false
   rules-below k =
-      refused (any (eqb 0) (v .rules))
+      bool-refused (any (eqb 0) (v .rules))
       (λ r. ⊎-elim (λ p. up h (p .0) (HE .within) (p .1)) (λ p. ⊎-elim (λ q. up e (later (p .0)) (FS .within) q) (λ q. up R (F .someRow) (le-refl _) q) (p .1)) (rules-where t 0 r)) where
         up : (i : ℕ) → 0 < i → i ≤ R → 0 ≡ yAt t i → ⊥
         up i a b q = omega (arith, yAt-up F 0 i a b)

@@ -44,8 +44,8 @@ module _ (text : List ℕ) (column : Column) (line : ℕ) (tableByte start end :
             let one = or-neither s t (two .0) in
             (ltb-false maxLineBytes (length text) (one .0), ltb-false maxOrigin (column .0) (one .1), ltb-false maxLeft (left .0) (two .1), ltb-false maxRegister (tableByte .0) (four .1))
 
-        pub checked : Checked text column start end left
-        checked =
+        pub cutNumbersAnswer-checked : Checked text column start end left
+        cutNumbersAnswer-checked =
             record {
               forward = range-forward (range start end) text (sym bad-told ∙ good);
               inside = range-inside (range start end) text (sym bad-told ∙ good);
@@ -55,10 +55,10 @@ module _ (text : List ℕ) (column : Column) (line : ℕ) (tableByte start end :
             }
 
         pub low-byte : (r : Piece) → Pieced text column start end left r → Fits w64 (tableByte .0 + r .start .0)
-        low-byte r p = fits-under w64 (tableByte .0 + r .start .0) 66560 (omega (arith, limits .3, limits .0, checked .inside, p .within)) tt
+        low-byte r p = fits-under w64 (tableByte .0 + r .start .0) 66560 (omega (arith, limits .3, limits .0, cutNumbersAnswer-checked .inside, p .within)) tt
 
-        pub accepted : (r : Piece) → Pieced text column start end left r
+        pub cutNumbersAnswer-accepted : (r : Piece) → Pieced text column start end left r
             → accept (record { start = r .start .0; end = r .end .0; line = line; byte = tableByte .0 + r .start .0; column = r .column .0 })
             ≡ cutNumbersAnswer (lineOf text column) line (tableByte .0) (range start end) (left .0)
         unfolding cutNumbersAnswer cutAnswer
-        accepted r p = rw (← bad-told, good, ← large-told, small, p .numbers line (tableByte .0))
+        cutNumbersAnswer-accepted r p = rw (← bad-told, good, ← large-told, small, p .numbers line (tableByte .0))

@@ -9,7 +9,7 @@ use lib.Dec.{eqb}
 use lib.ListN.{length, getD, replicate}
 use lib.Seq.{getD-take}
 use borrow.Author.Tests.{eqb-true}
-use Rattle.seq.proofs.Tests.{true-not-false, refused, bit, bit-one, bit-true, bit-false}
+use Rattle.seq.proofs.Tests.{true-not-false, bool-refused, bit, bit-one, bit-true, bit-false}
 use Rattle.seq.proofs.Positions.{getD-mem, mem-replicate}
 use Rattle.text.specs.Characters.{plus, span}
 use Rattle.text.specs.Computing.{characters}
@@ -128,7 +128,7 @@ climbs-run : (n low : ℕ) (s : Slot) (l : List Slot) → (vertical (s .glyph) �
 climbs-run zero low s l one h c = climbs-lower (omega arith) l c
 climbs-run (suc zero) low s l one h c = (h, climbs-lower (omega (arith, bit-one (vertical (s .glyph)))) l c)
 climbs-run (suc (suc n)) low s l one h c =
-    let flat : vertical (s .glyph) ≡ false = refused (vertical (s .glyph)) (λ e. let few = one e in omega arith) in
+    let flat : vertical (s .glyph) ≡ false = bool-refused (vertical (s .glyph)) (λ e. let few = one e in omega arith) in
     (h, climbs-run (suc n) (after s) s l (λ e. absurd (true-not-false (sym e ∙ flat))) (omega (arith, bit-false flat)) c)
 
 climbs-at : (low : ℕ) (l : List Slot) (d : Slot) → Climbs low l → (x : ℕ) → suc x < length l → after (getD l x d) ≤ getD l (suc x) d .byte

@@ -22,7 +22,7 @@ use Rattle.grid.specs.Rebuilt.{rebuilt}
 use Rattle.grid.specs.CutCall.{CutNumbers}
 use Rattle.grid.specs.TableCall.{TableSpace, startsShort, tableSpaceShort, tableShort, tableOver, readContradicts, tableAccepts, tableAnswer, tableAfterwards, cellCuts, cutArray, cellAccepts, cellAnswer, cellAfterwards}
 use Rattle.grid.proofs.CoverTheorems.{traced-covers, cover-unique, stopped-no-cover, stopped-seven}
-use Rattle.grid.proofs.ReadLaws.{passed-if, passed-then, refuseIf-later, andThen-refused, andThen-accepting, accept-not-refuse, afterwards-accepted, handedOut-read, handedOut-refused, passed, layout-read, table-read, readRects-stopped, readLayout-refused, readTable-refused}
+use Rattle.grid.proofs.ReadLaws.{passed-if, passed-then, refuseIf-later, andThen-refused, andThen-accepting, accept-not-refuse, afterwards-accepted, handedOut-read, handedOut-refused, readRects-passed, layout-read, table-read, readRects-stopped, readLayout-refused, readTable-refused}
 use Rattle.grid.proofs.RebuiltLaws.{layout-rebuilt}
 
 -- ---- what is said of an accepted call, and of 6 and 7, whichever call it is
@@ -31,7 +31,7 @@ module _ (lines : List Line) where
   readRects-covers : (rs : List Rect) → readRects lines ≡ accept rs → OnlyCover (gridOf lines) rs
   readRects-covers rs e =
       let g = gridOf lines in
-      let (covers, few, ordered) = traced-covers g rs (passed lines rs e .traced) in
+      let (covers, few, ordered) = traced-covers g rs (readRects-passed lines rs e .traced) in
       record { covers = covers; few = few; ordered = ordered; only = λ cs other. cover-unique g rs cs covers other }
 
   readRects-six : (p : ℕ) → readRects lines ≡ refuse 6 p → (cs : List Rect) → Cover (gridOf lines) cs → ⊥

@@ -9,7 +9,7 @@ use lib.ListN.{length, getD, length-map, length-append, take}
 use Rattle.seq.specs.Lists.{range, sum, isEmpty}
 use Rattle.seq.proofs.Ranges.{length-range}
 use Rattle.seq.proofs.Positions.{getD-map}
-use Rattle.seq.proofs.Rising.{position, position-lt}
+use Rattle.seq.proofs.Rising.{rising-position, position-lt}
 use Rattle.grid.specs.Values.{Line, Rect, Row, Fragment, noLine}
 use Rattle.grid.specs.Slots.{Grid}
 use Rattle.grid.specs.Layout.{rowLines, indexOf, Between, between, sectionAt, rowsRead, contentAt, innerLines, cellRead, layoutOf}
@@ -66,11 +66,11 @@ module _ (lines : List Line) (g : Grid) (rs : List Rect) (cover : Cover g rs) wh
       let nowhere : Between = record { from = 0; to = 0 } in
       let i = indexOf rows (r .top) in
       let deep = position-lt rows (rowLines-rise g rs) (top-line cover m) (bottom-line cover m) (cover .first r m .bordered .topAboveBottom) in
-      let inside : suc i < length rows = omega (arith, position rows (rowLines-rise g rs) (bottom-line cover m) .inside) in
+      let inside : suc i < length rows = omega (arith, rising-position rows (rowLines-rise g rs) (bottom-line cover m) .inside) in
       ap (λ (l : List ℕ). getD l i 0)
       (map-map (λ (row : Row). row .top) (λ (b : Between). record { section = sectionAt g (b .from); top = b .from; bottom = b .to }) (between rows))
       ∙ getD-map (λ (b : Between). b .from) (between rows) i 0 nowhere (omega (arith, length-between rows)) ∙ getD-between rows i nowhere inside
-      ∙ position rows (rowLines-rise g rs) (top-line cover m) .here
+      ∙ rising-position rows (rowLines-rise g rs) (top-line cover m) .here
 
   cut-lines : (r : Rect) (y n : ℕ) → cutFrom lines (r .left) y (map (contentAt g r) (range y n)) ≡ map (cutAt lines g r) (range y n)
   unfolding cutFrom range

@@ -104,8 +104,8 @@ module _ {g : Grid} {sky : List ℕ} (fits : Fits g sky) where
     level : (x : ℕ) → r .left ≤ x → x < r .right → getD sky x 0 ≡ r .top
     level x a b = omega (arith, top, lowAt x a b)
 
-  pub key : (rs : List Rect) → CoverFrom g sky rs → allDown g sky ≡ false → (r : Rect) × List·Memᴰ r rs × Next g sky r
-  key rs cover e =
+  pub cover-next : (rs : List Rect) → CoverFrom g sky rs → allDown g sky ≡ false → (r : Rect) × List·Memᴰ r rs × Next g sky r
+  cover-next rs cover e =
       let c = fits-corner fits in
       let t = lowest sky in
       let l = leftmost sky in

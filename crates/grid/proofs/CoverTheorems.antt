@@ -9,7 +9,7 @@ use lib.Dec.{leb}
 use lib.ListN.{length, getD-replicate}
 use borrow.Author.Tests.{lt-leb, le-ltb, le-leb}
 use Rattle.seq.specs.Lists.{neighbours}
-use Rattle.seq.proofs.Tests.{refused, le-or-lt, or-left, or-right, bit-false, lex-cases, lex-trans}
+use Rattle.seq.proofs.Tests.{bool-refused, le-or-lt, or-left, or-right, bit-false, lex-cases, lex-trans}
 use Rattle.seq.proofs.Sorted.{Strict, sorted-same}
 use Rattle.seq.proofs.Permutations.{without, perm-without, perm-length, perm-mem}
 use Rattle.grid.specs.Limits.{maxCells}
@@ -18,8 +18,8 @@ use Rattle.grid.specs.Slots.{Grid}
 use Rattle.grid.specs.Trace.{covered, stopped, placed, raise, allDown, traceFrom, trace}
 use Rattle.grid.specs.Cover.{Cover, Small, ground, risen, Next, Placed, Stuck, Overfull, precedes}
 use Rattle.grid.proofs.SkylineLaws.{found-next, Fits, fits-ground, fits-raise}
-use Rattle.grid.proofs.TraceLaws.{trace-done, trace-full, trace-next, covering, stops, stuck-stops, overfull-stops, placed-ordered}
-use Rattle.grid.proofs.CoverLaws.{under, CoverFrom, cover-before, cover-nothing, nothing-left, key, cover-after}
+use Rattle.grid.proofs.TraceLaws.{trace-done, trace-full, trace-next, traceFrom-covering, traceFrom-stops, stuck-stops, overfull-stops, placed-ordered}
+use Rattle.grid.proofs.CoverLaws.{under, CoverFrom, cover-before, cover-nothing, nothing-left, cover-next, cover-after}
 
 -- ---- a drawing of at least two lines and two columns
 
@@ -31,7 +31,7 @@ small-stops : (g : Grid) → leb (g .height) 1 || leb (g .width) 1 ≡ true → 
 unfolding trace
 small-stops g e = rw e
 
--- A single line, or a drawing one column wide, is refused with 6.
+-- A single line, or a drawing one column wide, is bool-refused with 6.
 pub small-stopped : (g : Grid) → Small g → trace g ≡ stopped 6
 small-stopped g small =
     ⊎-elim (λ (h : g .height ≤ 1). small-stops g (or-left (leb (g .width) 1) (le-leb (g .height) 1 h)))
@@ -85,7 +85,7 @@ left {g} {sky} cs fits cover = go (allDown g sky) refl where
   go : (t : Bool) → allDown g sky ≡ t → Left g sky cs
   go true e = nothing e (nothing-left fits cs cover e)
   go false e =
-      let found = key fits cs cover e in
+      let found = cover-next fits cs cover e in
       something (found .0) (found .1) e (found .2) (cover-after fits cover (found .1) (found .2)) (sym (perm-length (perm-without (found .1))))
 
 -- a cover of no more rectangles than there is room for is traced
@@ -108,7 +108,7 @@ cover-traces g (suc room) sky cs fits cover few = go (left cs fits cover) (λ r 
         List·Permᴰ·trans (List·Permᴰ·cons refl (traced .2)) (perm-without m),
       )
 
--- a cover of more rectangles than there is room for stops tracing with 7
+-- a cover of more rectangles than there is room for traceFrom-stops tracing with 7
 cover-overfull : (g : Grid) (room : ℕ) (sky : List ℕ) (cs : List Rect) → Fits g sky → CoverFrom g sky cs → room < length cs → traceFrom g room sky ≡ stopped 7
 cover-overfull g zero sky cs fits cover many = go (left cs fits cover) where
   go : Left g sky cs → traceFrom g zero sky ≡ stopped 7
@@ -131,7 +131,7 @@ traced-covers g rs e = ⊎-elim good (λ (small : Small g). absurd (let z : _≡
   good : Sized g → Cover g rs × (length rs ≤ 1024) × (neighbours precedes rs ≡ true)
   good s =
       let fits = fits-ground g (s .wide) in
-      let all = covering g maxCells (ground g) rs (sym (traced-sized g s) ∙ e) in
+      let all = traceFrom-covering g maxCells (ground g) rs (sym (traced-sized g s) ∙ e) in
       (to-cover s (placed-cover g (ground g) rs fits (all .each) (all .down)), all .few, placed-ordered g (ground g) rs fits (all .each))
 
 -- A cover of at most 1,024 rectangles, in whatever order, is what tracing gives, up to order.
@@ -145,7 +145,7 @@ pub precedes-strict : Strict precedes
 precedes-strict =
     record {
       irreflexive = λ a.
-          refused (precedes a a)
+          bool-refused (precedes a a)
           (λ e. ⊎-elim (λ (h : a .top < a .top). omega arith) (λ (h : (a .top ≡ a .top) × (a .left < a .left)). omega arith)
           (lex-cases (a .top) (a .top) (a .left) (a .left) e));
       transitive = λ a b c e f. lex-trans (a .top) (b .top) (c .top) (a .left) (b .left) (c .left) e f;
@@ -173,12 +173,12 @@ cover-unique g bs cs hb hc =
     let same : b .0 ≡ c .0 = cc (b .1, c .1) in
     List·Permᴰ·trans (Permᴰ·symm (rw same at (b .2))) (c .2)
 
--- A cover of more than 1,024 rectangles is refused with 7.
+-- A cover of more than 1,024 rectangles is bool-refused with 7.
 pub many-stopped : (g : Grid) (cs : List Rect) → Cover g cs → 1024 < length cs → trace g ≡ stopped 7
 many-stopped g cs cover many =
     traced-sized g (record { tall = cover .tall; wide = cover .wide }) ∙ cover-overfull g maxCells (ground g) cs (fits-ground g (cover .wide)) (from-cover cover) many
 
--- Where tracing stops with 6 there is no cover, of any number of rectangles in any order.
+-- Where tracing traceFrom-stops with 6 there is no cover, of any number of rectangles in any order.
 pub stopped-no-cover : (g : Grid) (cs : List Rect) → trace g ≡ stopped 6 → Cover g cs → ⊥
 stopped-no-cover g cs e cover = ⊎-elim few many (le-or-lt (length cs) 1024) where
   few : length cs ≤ 1024 → ⊥
@@ -187,15 +187,15 @@ stopped-no-cover g cs e cover = ⊎-elim few many (le-or-lt (length cs) 1024) wh
   many : 1024 < length cs → ⊥
   many h = let z : _≡_ {A = ℕ} 6 7 = cc (many-stopped g cs cover h) in omega arith
 
--- Tracing stops with no other number than 6 and 7.
+-- Tracing traceFrom-stops with no other number than 6 and 7.
 pub stopped-six-or-seven : (g : Grid) (number : ℕ) → trace g ≡ stopped number → (number ≡ 6) ⊎ (number ≡ 7)
 stopped-six-or-seven g number e = ⊎-elim good (λ (small : Small g). inl (cc (small-stopped g small))) (sized g) where
   good : Sized g → (number ≡ 6) ⊎ (number ≡ 7)
   good s =
       ⊎-elim (λ (h : (number ≡ 6) × Stuck g maxCells (ground g)). inl (h .0)) (λ (h : (number ≡ 7) × Overfull g maxCells (ground g)). inr (h .0))
-      (stops g maxCells (ground g) number (sym (traced-sized g s) ∙ e))
+      (traceFrom-stops g maxCells (ground g) number (sym (traced-sized g s) ∙ e))
 
--- Tracing stops with 6 exactly where the drawing is small, or where, after at most 1,024 rectangles placed, the leftmost lowest column
+-- Tracing traceFrom-stops with 6 exactly where the drawing is small, or where, after at most 1,024 rectangles placed, the leftmost lowest column
 -- is above the last line and has none to place: no first bordered rectangle, or one that is not level.
 pub stopped-six : (g : Grid) → (trace g ≡ stopped 6) ↔ (Small g ⊎ Stuck g 1024 (ground g))
 stopped-six g = (there, ⊎-elim (small-stopped g) back) where
@@ -203,7 +203,7 @@ stopped-six g = (there, ⊎-elim (small-stopped g) back) where
   there e =
       ⊎-elim (λ (s : Sized g).
       ⊎-elim (λ (h : (6 ≡ 6) × Stuck g maxCells (ground g)). inr (h .1)) (λ (h : (6 ≡ 7) × Overfull g maxCells (ground g)). absurd (omega arith))
-      (stops g maxCells (ground g) 6 (sym (traced-sized g s) ∙ e)))
+      (traceFrom-stops g maxCells (ground g) 6 (sym (traced-sized g s) ∙ e)))
       inl (sized g)
 
   back : Stuck g 1024 (ground g) → trace g ≡ stopped 6
@@ -217,7 +217,7 @@ placed-sized g sky (r ∷ rs) each some-placed =
     let h = each .0 .first .bordered in
     record { tall = omega (arith, h .topAboveBottom, h .bottomInside); wide = omega (arith, h .leftBeforeRight, h .rightInside) }
 
--- Tracing stops with 7 exactly where 1,024 rectangles are placed, each the first bordered one at the leftmost lowest column and level
+-- Tracing traceFrom-stops with 7 exactly where 1,024 rectangles are placed, each the first bordered one at the leftmost lowest column and level
 -- there, and then a 1,025th is found that is such a one too.
 pub stopped-seven : (g : Grid) → (trace g ≡ stopped 7) ↔ Overfull g 1024 (ground g)
 stopped-seven g = (there, back) where
@@ -225,7 +225,7 @@ stopped-seven g = (there, back) where
   there e =
       ⊎-elim (λ (s : Sized g).
       ⊎-elim (λ (h : (7 ≡ 6) × Stuck g maxCells (ground g)). absurd (omega arith)) (λ (h : (7 ≡ 7) × Overfull g maxCells (ground g)). h .1)
-      (stops g maxCells (ground g) 7 (sym (traced-sized g s) ∙ e)))
+      (traceFrom-stops g maxCells (ground g) 7 (sym (traced-sized g s) ∙ e)))
       (λ (small : Small g). absurd (let z : _≡_ {A = ℕ} 6 7 = cc (small-stopped g small) in omega arith)) (sized g)
 
   back : Overfull g 1024 (ground g) → trace g ≡ stopped 7

@@ -149,8 +149,8 @@ module _ {g : Grid} {rs : List Rect} (cover : Cover g rs) where
         (⊎-elim (λ (e : y ≡ r .top). omega (arith, h .topAboveBottom, h .bottomInside)) (λ (e : y ≡ r .bottom). omega (arith, h .bottomInside)) (edge .2))
 
   -- the rectangle that holds a square
-  pub holder : (y x : ℕ) → suc y < g .height → suc x < g .width → (r : Rect) × List·Memᴰ r rs × Inside y x r
-  holder y x hy hx =
+  pub cover-holder : (y x : ℕ) → suc y < g .height → suc x < g .width → (r : Rect) × List·Memᴰ r rs × Inside y x r
+  cover-holder y x hy hx =
       let held = count-pick (holds y x) rs (omega (arith, cover .once y x hy hx)) in
       (held .0, held .1, inside-holds y x (held .0) (held .2))
 
@@ -188,7 +188,7 @@ module _ {g : Grid} {rs : List Rect} (cover : Cover g rs) where
     beyond : {r : Rect} → List·Memᴰ r rs → x ≡ r .right → (q : Rect) × List·Memᴰ q rs × (q .left ≡ x)
     beyond {r} n e =
         let b = cover .first r n .bordered in
-        let held = holder (r .top) (r .right) (omega (arith, b .topAboveBottom, b .bottomInside)) (omega arith) in
+        let held = cover-holder (r .top) (r .right) (omega (arith, b .topAboveBottom, b .bottomInside)) (omega arith) in
         (held .0, held .1, touches-right (held .1) n (held .2) ∙ sym e)
 
   -- Every row line above the last line is the top edge of some rectangle.
@@ -197,7 +197,7 @@ module _ {g : Grid} {rs : List Rect} (cover : Cover g rs) where
     beneath : {r : Rect} → List·Memᴰ r rs → y ≡ r .bottom → (q : Rect) × List·Memᴰ q rs × (q .top ≡ y)
     beneath {r} n e =
         let b = cover .first r n .bordered in
-        let held = holder (r .bottom) (r .left) (omega arith) (omega (arith, b .leftBeforeRight, b .rightInside)) in
+        let held = cover-holder (r .bottom) (r .left) (omega arith) (omega (arith, b .leftBeforeRight, b .rightInside)) in
         (held .0, held .1, touches-below (held .1) n (held .2) ∙ sym e)
 
   -- ---- rows, columns and cells of the layout

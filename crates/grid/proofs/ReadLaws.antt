@@ -1,4 +1,4 @@
--- What a drawing that is read has passed, and what a refusal with 6 or 7 says.
+-- What a drawing that is read has readRects-passed, and what a refusal with 6 or 7 says.
 -- Others cite `passed` with the `read-` laws of its checks, `layout-read` and `table-read` for what is made of the rectangles,
 -- and `readRects-stopped` with `readLayout-refused` and `readTable-refused` for 6 and 7.
 use Prim.Native.Nat.{ℕ, _≤_, _<_}
@@ -95,7 +95,7 @@ rectangles-stopped : (t : Traced) (m p : ℕ) → rectangles t ≡ refuse m p �
 rectangles-stopped (covered rs) m p e = absurd (accept-not-refuse rs m p e)
 rectangles-stopped (stopped number) m p e = let same : number ≡ m = cc e in λ i. stopped (same i)
 
--- a drawing that passed every check of reading, with its rectangles
+-- a drawing that readRects-passed every check of reading, with its rectangles
 pub record Passed (lines : List Line) (rs : List Rect) : Type 0 where
   pub notEmpty : isEmpty lines ≡ false
   pub notTooLarge : drawingTooLarge lines ≡ false
@@ -105,9 +105,9 @@ pub record Passed (lines : List Line) (rs : List Rect) : Type 0 where
   pub filled : wrongWidth (gridOf lines) ≡ none
   pub traced : trace (gridOf lines) ≡ covered rs
 
-pub passed : (lines : List Line) (rs : List Rect) → readRects lines ≡ accept rs → Passed lines rs
+pub readRects-passed : (lines : List Line) (rs : List Rect) → readRects lines ≡ accept rs → Passed lines rs
 unfolding readRects readGrid
-passed lines rs e =
+readRects-passed lines rs e =
     let g = gridOf lines in
     let six = rectangles (trace g) in
     let five = refuseAt (wrongWidth g) 5 six in
@@ -137,9 +137,9 @@ pub record Limited (lines : List Line) : Type 0 where
   pub shortLines : {line : Line} → List·Memᴰ line lines → length (line .text) ≤ 512
   pub fewBytes : sum (map (λ (line : Line). length (line .text)) lines) ≤ 32768
 
-pub limited : (lines : List Line) → drawingTooLarge lines ≡ false → Limited lines
+pub drawingTooLarge-limited : (lines : List Line) → drawingTooLarge lines ≡ false → Limited lines
 unfolding drawingTooLarge
-limited lines e =
+drawingTooLarge-limited lines e =
     let bytes = sum (map (λ (line : Line). length (line .text)) lines) in
     let (lengths, few) = or-neither (ltb maxLines (length lines) || any lineTooLarge lines) (ltb maxBytes bytes) e in
     let (count, short) = or-neither (ltb maxLines (length lines)) (any lineTooLarge lines) lengths in
@@ -163,7 +163,7 @@ module _ {lines : List Line} {rs : List Rect} (checks : Passed lines rs) where
   read-few = traced-covers (gridOf lines) rs (checks .traced) .1
 
   pub read-limited : Limited lines
-  read-limited = limited lines (checks .notTooLarge)
+  read-limited = drawingTooLarge-limited lines (checks .notTooLarge)
 
   pub read-narrow : gridOf lines .width ≤ 128
   read-narrow = ltb-false maxWidth (gridOf lines .width) (checks .notTooWide)

@@ -10,7 +10,7 @@ use lib.Seq.{getD-append-add}
 use Rattle.seq.specs.Lists.{range, sum}
 use Rattle.seq.proofs.Positions.{getD-map}
 use Rattle.seq.proofs.Sums.{sum-distances}
-use Rattle.seq.proofs.Rising.{Position, position, position-lt, rising-getD}
+use Rattle.seq.proofs.Rising.{Position, rising-position, position-lt, rising-getD}
 use Rattle.grid.specs.Answer.{accept}
 use Rattle.grid.specs.Values.{Line, Rect, Row, GridTableColumn, Layout}
 use Rattle.grid.specs.Slots.{Grid, gridOf}
@@ -23,7 +23,7 @@ use Rattle.grid.specs.Flat.{FlatDrawing, drawingContradicts, linesOf, co
 use Rattle.grid.specs.LayoutCall.{LayoutSpace, LayoutSizes, LayoutArrays, spaceShort, rowNumbers, cellNumbers, layoutArrays, layoutSizes, layoutShort, layoutOver, layoutAccepts, layoutAnswer, layoutAfterwards}
 use Rattle.grid.specs.Rebuilt.{columnAcross, rebuiltCell, rebuiltFrom, rebuilt}
 use Rattle.grid.proofs.LayoutLaws.{length-between, columnLines-rise, rowLines-rise, left-line, right-line, top-line, bottom-line, between-at}
-use Rattle.grid.proofs.ReadLaws.{passed-then, afterwards-accepted, handedOut-read, passed, read-cover, layout-read}
+use Rattle.grid.proofs.ReadLaws.{passed-then, afterwards-accepted, handedOut-read, readRects-passed, read-cover, layout-read}
 
 -- number i of the entries of element n, k entries each, with more written after all of them
 getD-entries : {A : Type 0} (f : A → List ℕ) (k : ℕ) → ((a : A) → length (f a) ≡ k) → (l : List A) (rest : List ℕ) (n i : ℕ) (d : A) → n < length l → i < k
@@ -94,16 +94,16 @@ module _ (lines : List Line) (g : Grid) (rs : List Rect) (out : LayoutArrays) wh
       ir = indexOf columns (r .right)
 
       pt : Position rows (r .top)
-      pt = position rows (rowLines-rise g rs) (top-line cover m)
+      pt = rising-position rows (rowLines-rise g rs) (top-line cover m)
 
       pb : Position rows (r .bottom)
-      pb = position rows (rowLines-rise g rs) (bottom-line cover m)
+      pb = rising-position rows (rowLines-rise g rs) (bottom-line cover m)
 
       pl : Position columns (r .left)
-      pl = position columns (columnLines-rise g rs) (left-line cover m)
+      pl = rising-position columns (columnLines-rise g rs) (left-line cover m)
 
       pr : Position columns (r .right)
-      pr = position columns (columnLines-rise g rs) (right-line cover m)
+      pr = rising-position columns (columnLines-rise g rs) (right-line cover m)
 
       deep : it < ib
       deep = position-lt rows (rowLines-rise g rs) (top-line cover m) (bottom-line cover m) (cover .first r m .bordered .topAboveBottom)
@@ -166,7 +166,7 @@ module _ (w : LayoutSpace) (d : FlatDrawing) (out : LayoutArrays) where
       let (l, accepts, size) = answer-accepts sizes e in
       let (rs, traced, made) = layout-read (linesOf d) l (accepts-read l accepts) in
       let g = gridOf (linesOf d) in
-      let cover = read-cover (passed (linesOf d) rs traced) in
+      let cover = read-cover (readRects-passed (linesOf d) rs traced) in
       let cells : sizes .cells ≡ length rs = sym size ∙ ap (λ (l : Layout). length (l .cells)) made ∙ length-map rs (cellRead g rs) in
       let arrays = accepts-afterwards l accepts ∙ ap (λ (l : Layout). layoutOver (layoutArrays l) out) made in
       rw (cells, arrays) (traced ∙ ap accept (sym (rects-rebuilt (linesOf d) g rs out cover)))

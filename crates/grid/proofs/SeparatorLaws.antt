@@ -27,8 +27,8 @@ use Rattle.grid.specs.Answer.{accept}
 use Rattle.grid.specs.Cover.{Bordered, First, Cover}
 use Rattle.grid.proofs.RectangleLaws.{both-plus, rect}
 use Rattle.grid.proofs.CoverTheorems.{traced-covers}
-use Rattle.grid.proofs.LayoutLaws.{holder, top-line, bottom-line}
-use Rattle.grid.proofs.ReadLaws.{Passed, passed}
+use Rattle.grid.proofs.LayoutLaws.{cover-holder, top-line, bottom-line}
+use Rattle.grid.proofs.ReadLaws.{Passed, readRects-passed}
 
 -- ---- a rule line is horizontal throughout
 
@@ -128,13 +128,13 @@ across-line : {g : Grid} {rs : List Rect} → Cover g rs → (s : ℕ) → s < g
 across-line {g} {rs} cover s inside full = ⊎-elim last higher (le-or-lt (g .height - 1) s) where
   last : g .height - 1 ≤ s → List·Memᴰ s (rowLines g rs)
   last h =
-      let held = holder cover (s - 1) 0 (omega (arith, cover .tall)) (cover .wide) in
+      let held = cover-holder cover (s - 1) 0 (omega (arith, cover .tall)) (cover .wide) in
       let e : s ≡ held .0 .bottom = omega (arith, held .2 .above, cover .tall, cover .first (held .0) (held .1) .bordered .bottomInside) in
       rw e (bottom-line cover (held .1))
 
   higher : s < g .height - 1 → List·Memᴰ s (rowLines g rs)
   higher h =
-      let held = holder cover s 0 (omega arith) (cover .wide) in
+      let held = cover-holder cover s 0 (omega arith) (cover .wide) in
       ⊎-elim (λ (e : held .0 .top ≡ s). rw (← e) (top-line cover (held .1)))
       (λ (k : held .0 .top < s). absurd (none-cut (cover .first (held .0) (held .1)) full k (held .2 .above))) (eq-or-lt-of-le (held .2 .below))
 
@@ -146,6 +146,6 @@ height-lines lines h = h
 pub separator-line : (lines : List Line) (rs : List Rect) → readRects lines ≡ accept rs → (s : ℕ) → List·Memᴰ s (gridOf lines .separators)
     → List·Memᴰ s (rowLines (gridOf lines) rs)
 separator-line lines rs e s m =
-    let checks = passed lines rs e in
+    let checks = readRects-passed lines rs e in
     let cover = traced-covers (gridOf lines) rs (checks .traced) .0 in
     across-line cover s (height-lines lines (separator-inside lines m .0)) (separator-across lines (checks .filled) m)

@@ -11,7 +11,7 @@ use lib.ListN.{length, getD, take, drop, replicate, length-append, length-take, 
 use lib.Seq.{getD-take, getD-drop}
 use borrow.Author.Tests.{leb-true, ltb-true, eqb-true, eqb-false, lt-ltb, le-ltb, le-leb, eq-eqb}
 use Rattle.seq.specs.Lists.{firstAt, orDefault}
-use Rattle.seq.proofs.Tests.{true-not-false, and-left, and-right, and-intro, refused, le-or-lt, bit, bit-true, bit-false}
+use Rattle.seq.proofs.Tests.{true-not-false, and-left, and-right, and-intro, bool-refused, le-or-lt, bit, bit-true, bit-false}
 use Rattle.seq.proofs.Searches.{all-range, range-all, someIf-some, firstAt-some, firstAt-none}
 use Rattle.seq.proofs.Positions.{getD-mem, getD-past}
 use Rattle.seq.proofs.Smallest.{smallest-le, smallest-mem}
@@ -30,9 +30,9 @@ pub record Corner (sky : List ℕ) : Type 0 where
   pub lowest-of : (x : ℕ) → x < length sky → lowest sky ≤ getD sky x 0
   pub first : (x : ℕ) → x < leftmost sky → lowest sky < getD sky x 0
 
-pub corner : (sky : List ℕ) → 0 < length sky → Corner sky
+pub leftmost-corner : (sky : List ℕ) → 0 < length sky → Corner sky
 unfolding leftmost
-corner sky some-column = go (firstAt atLowest 0 sky) refl where
+leftmost-corner sky some-column = go (firstAt atLowest 0 sky) refl where
   atLowest : ℕ → Bool
   atLowest bottom = eqb bottom (lowest sky)
 
@@ -125,20 +125,20 @@ module _ (r : Rect) (sky : List ℕ) (wide : r .left < r .right) (fits : r .righ
   raise-under tall level y x = ⊎-elim from-left (λ (h : x < r .left). outside (raise-before x h) (λ i. omega arith)) (le-or-lt (r .left) x) where
     outside : getD (raise r sky) x 0 ≡ getD sky x 0 → (Inside y x r → ⊥)
         → bit (ltb y (getD (raise r sky) x 0)) ≡ bit (holds y x r) + bit (ltb y (getD sky x 0))
-    outside same apart = rw same (omega (arith, bit-false (refused (holds y x r) (λ e. apart (inside-holds y x r e)))))
+    outside same apart = rw same (omega (arith, bit-false (bool-refused (holds y x r) (λ e. apart (inside-holds y x r e)))))
 
     onto : r .left ≤ x → x < r .right → bit (ltb y (r .bottom)) ≡ bit (holds y x r) + bit (ltb y (r .top))
     onto low high = ⊎-elim lower higher (le-or-lt (r .top) y) where
       higher : y < r .top → bit (ltb y (r .bottom)) ≡ bit (holds y x r) + bit (ltb y (r .top))
       higher h =
-          let out : holds y x r ≡ false = refused (holds y x r) (λ e. omega (arith, inside-holds y x r e)) in
+          let out : holds y x r ≡ false = bool-refused (holds y x r) (λ e. omega (arith, inside-holds y x r e)) in
           omega (arith, bit-false out, bit-true (lt-ltb y (r .top) h), bit-true (lt-ltb y (r .bottom) (omega arith)))
 
       lower : r .top ≤ y → bit (ltb y (r .bottom)) ≡ bit (holds y x r) + bit (ltb y (r .top))
       lower h = ⊎-elim past (λ (k : y < r .bottom). within-it k) (le-or-lt (r .bottom) y) where
         past : r .bottom ≤ y → bit (ltb y (r .bottom)) ≡ bit (holds y x r) + bit (ltb y (r .top))
         past k =
-            let out : holds y x r ≡ false = refused (holds y x r) (λ e. omega (arith, inside-holds y x r e)) in
+            let out : holds y x r ≡ false = bool-refused (holds y x r) (λ e. omega (arith, inside-holds y x r e)) in
             omega (arith, bit-false out, bit-false (le-ltb y (r .top) h), bit-false (le-ltb y (r .bottom) k))
 
         within-it : y < r .bottom → bit (ltb y (r .bottom)) ≡ bit (holds y x r) + bit (ltb y (r .top))
@@ -186,7 +186,7 @@ fits-ground g wide = record { wide = wide; columns = length-replicate (g .width 
 
 module _ {g : Grid} {sky : List ℕ} (fits : Fits g sky) where
   pub fits-corner : Corner sky
-  fits-corner = corner sky (omega arith)
+  fits-corner = leftmost-corner sky (omega arith)
 
   pub fits-raise : {r : Rect} → Bordered g r → Fits g (raise r sky)
   fits-raise {r} h = record { wide = fits .wide; columns = raise-length r sky (h .leftBeforeRight) (omega (arith, h .rightInside)) ∙ fits .columns }

@@ -21,7 +21,7 @@ use Rattle.grid.proofs.RectangleLaws.{first-unique}
 use Rattle.grid.proofs.SkylineLaws.{Inside, inside-holds, holds-inside}
 use Rattle.grid.proofs.CoverLaws.{own-corner}
 use Rattle.grid.proofs.CoverTheorems.{precedes-strict, traced-exactly}
-use Rattle.grid.proofs.LayoutLaws.{holder, same-holder}
+use Rattle.grid.proofs.LayoutLaws.{cover-holder, same-holder}
 
 pub record Tiles (g : Grid) (fs : List Rect) : Type 0 where
   pub tall : 1 < g .height
@@ -74,7 +74,7 @@ module _ {g : Grid} {fs rs : List Rect} (T : Tiles g fs) (cover : Cover g rs) wh
       corner-rect : (r : Rect) × List·Memᴰ r rs × (r .top ≡ q .top) × (r .left ≡ q .left)
       corner-rect =
           let hq = T .each q q-in in
-          let (r, m, i) = holder cover (q .top) (q .left) (omega (arith, hq .topAboveBottom, hq .bottomInside)) (omega (arith, hq .leftBeforeRight, hq .rightInside)) in
+          let (r, m, i) = cover-holder cover (q .top) (q .left) (omega (arith, hq .topAboveBottom, hq .bottomInside)) (omega (arith, hq .leftBeforeRight, hq .rightInside)) in
           let k = corners r m i in
           (r, m, k .0, k .1) where
             corners : (r : Rect) → List·Memᴰ r rs → Inside (q .top) (q .left) r → (r .top ≡ q .top) × (r .left ≡ q .left)

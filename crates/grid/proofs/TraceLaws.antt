@@ -104,13 +104,13 @@ placed-more : (g : Grid) (room : ℕ) (sky : List ℕ) (rs : List Rect) {r : Rec
 unfolding risen
 placed-more g room sky rs next rest = record { each = (next, rest .each); few = omega (arith, rest .few); down = rest .down }
 
-pub covering : (g : Grid) (room : ℕ) (sky : List ℕ) (rs : List Rect) → traceFrom g room sky ≡ covered rs → Covering g room sky rs
-covering g zero sky rs e = go (turn g sky) where
+pub traceFrom-covering : (g : Grid) (room : ℕ) (sky : List ℕ) (rs : List Rect) → traceFrom g room sky ≡ covered rs → Covering g room sky rs
+traceFrom-covering g zero sky rs e = go (turn g sky) where
   go : Turn g sky → Covering g zero sky rs
   go (ended d) = finished g zero sky rs e d
   go (halted more gone) = absurd (let z : _≡_ {A = ℕ} 0 1 = cc (trace-stuck g sky zero more gone) in omega arith)
   go (placing r more found) = absurd (let z : _≡_ {A = ℕ} 0 1 = cc (trace-full g sky r more found) in omega arith)
-covering g (suc room) sky rs e = go (turn g sky) (λ r. covering g room (raise r sky)) where
+traceFrom-covering g (suc room) sky rs e = go (turn g sky) (λ r. traceFrom-covering g room (raise r sky)) where
   go : Turn g sky → ((r : Rect) (qs : List Rect) → traceFrom g room (raise r sky) ≡ covered qs → Covering g room (raise r sky) qs)
       → Covering g (suc room) sky rs
   go (ended d) rest = finished g (suc room) sky rs e d
@@ -119,15 +119,15 @@ covering g (suc room) sky rs e = go (turn g sky) (λ r. covering g room (raise r
       let split = placed-covered r (traceFrom g room (raise r sky)) rs (sym (trace-next g sky room r more found) ∙ e) in
       rw (split .2) (placed-more g room sky (split .0) (next-found found) (rest r (split .0) (split .1)))
 
--- tracing stops with 6 or 7, at what these stand for
-pub stops : (g : Grid) (room : ℕ) (sky : List ℕ) (number : ℕ) → traceFrom g room sky ≡ stopped number
+-- tracing traceFrom-stops with 6 or 7, at what these stand for
+pub traceFrom-stops : (g : Grid) (room : ℕ) (sky : List ℕ) (number : ℕ) → traceFrom g room sky ≡ stopped number
     → ((number ≡ 6) × Stuck g room sky) ⊎ ((number ≡ 7) × Overfull g room sky)
-stops g zero sky number e = go (turn g sky) where
+traceFrom-stops g zero sky number e = go (turn g sky) where
   go : Turn g sky → ((number ≡ 6) × Stuck g zero sky) ⊎ ((number ≡ 7) × Overfull g zero sky)
   go (ended d) = absurd (let z : _≡_ {A = ℕ} 0 1 = cc (trace-done g sky zero d) in omega arith)
   go (halted more gone) = inl (cc (trace-stuck g sky zero more gone), no-next g zero sky more gone)
   go (placing r more found) = inr (cc (trace-full g sky r more found), record { rectangles = r ∷ []; each = (next-found found, tt); oneMore = refl })
-stops g (suc room) sky number e = go (turn g sky) (λ r. stops g room (raise r sky) number) where
+traceFrom-stops g (suc room) sky number e = go (turn g sky) (λ r. traceFrom-stops g room (raise r sky) number) where
   go : Turn g sky
       → ((r : Rect) → traceFrom g room (raise r sky) ≡ stopped number
       → ((number ≡ 6) × Stuck g room (raise r sky)) ⊎ ((number ≡ 7) × Overfull g room (raise r sky)))
@@ -145,7 +145,7 @@ next-not-down {g} {sky} {r} next =
     lt-leb (g .height - 1) (lowest sky)
     (omega (arith, next .atLowest, next .first .bordered .topAboveBottom, next .first .bordered .bottomInside))
 
--- rectangles placed, and then none to place: tracing stops with 6
+-- rectangles placed, and then none to place: tracing traceFrom-stops with 6
 pub stuck-stops : (g : Grid) (room : ℕ) (sky : List ℕ) (rs : List Rect) → Placed g sky rs → length rs ≤ room → lowest (risen sky rs) < g .height - 1
     → ((r : Rect) → Next g (risen sky rs) r → ⊥) → traceFrom g room sky ≡ stopped 6
 unfolding risen
@@ -158,7 +158,7 @@ stuck-stops g (suc room) sky (r ∷ rs) each few higher none-next =
     trace-next g sky room r (next-not-down (each .0)) (found-next (each .0))
     ∙ ap (placed r) (stuck-stops g room (raise r sky) rs (each .1) (omega arith) higher none-next)
 
--- room rectangles placed and one more to place: tracing stops with 7
+-- room rectangles placed and one more to place: tracing traceFrom-stops with 7
 pub overfull-stops : (g : Grid) (room : ℕ) (sky : List ℕ) (rs : List Rect) → Placed g sky rs → length rs ≡ suc room → traceFrom g room sky ≡ stopped 7
 overfull-stops g room sky [] each more = absurd (omega arith)
 overfull-stops g zero sky (r ∷ rs) each more = trace-full g sky r (next-not-down (each .0)) (found-next (each .0))

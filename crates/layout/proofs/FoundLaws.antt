@@ -13,7 +13,7 @@ use Rattle.representation.specs.Edges.{Collected, rowLinesBelow, columnLinesBel
 use Rattle.representation.specs.LayoutEntries.{linesHeld, Rising, Numbered}
 use Rattle.representation.specs.declared.Bounds.{Bounds}
 use Rattle.representation.specs.declared.Parts.{Parts}
-use Rattle.representation.proofs.TracedLaws.{tops-held, lefts-held, tops-rise, lefts-rise, tops-some, lefts-some, lefts-small, numbered}
+use Rattle.representation.proofs.TracedLaws.{tops-held, lefts-held, tops-rise, lefts-rise, tops-some, lefts-some, lefts-small, gridAnswer-numbered}
 use Rattle.reading.specs.Call.{SheetArrays, linesIn, rectsIn, TracedSheet}
 use Rattle.reading.specs.declared.Outcome.{Outcome}
 use Rattle.reading.proofs.SheetLaws.{traced-accepted, traced-holds, traced-lines, traced-height, traced-width, traced-separators, traced-laid}
@@ -80,4 +80,4 @@ module _ {a : SheetArrays} {o : Outcome} (t : TracedSheet a o) where
     lefts-found-small = lefts-small _ _ _ _ (traced-accepted a o t) (traced-holds a o t) low narrow _ _ down across
 
     pub rects-found-numbered : (r : Rect) → List·Memᴰ r (rectsIn a (o .cells)) → Numbered tops lefts r
-    rects-found-numbered = numbered _ _ _ _ (traced-accepted a o t) (traced-holds a o t) low narrow _ _ down across
+    rects-found-numbered = gridAnswer-numbered _ _ _ _ (traced-accepted a o t) (traced-holds a o t) low narrow _ _ down across

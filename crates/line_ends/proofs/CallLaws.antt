@@ -19,12 +19,12 @@ use Rattle.grid.specs.Limits.{maxRegister}
 use Rattle.sourcepos.specs.declared.CellLineEnd.{CellLineEnd}
 use Rattle.sourcepos.specs.LineEnds.{reaches, lastEnd, findEol, remap}
 use Rattle.sourcepos.specs.LineEndCalls.{Register, register, registerContradicts, endsOf, badEnd, endTooLarge, addAnswer, addAfterwards, findAnswer, remapAnswer}
-use Rattle.sourcepos.proofs.RegisterLaws.{Sized, sized, below-room, good-numbers, small-numbers}
+use Rattle.sourcepos.proofs.RegisterLaws.{Sized, registerContradicts-sized, below-room, good-numbers, small-numbers}
 use Rattle.line_ends.specs.Search.{lastAt, Held}
 
-pub held : (g : Register) → registerContradicts g ≡ false → Held (g .count) (g .lines) (g .starts) (g .eols)
-held g agrees =
-    let z = sized g agrees in
+pub registerContradicts-held : (g : Register) → registerContradicts g ≡ false → Held (g .count) (g .lines) (g .starts) (g .eols)
+registerContradicts-held g agrees =
+    let z = registerContradicts-sized g agrees in
     record {
       lineRoom = omega (arith, z .count, z .lines);
       startRoom = omega (arith, z .count, z .starts);
@@ -52,7 +52,7 @@ module _ (g : Register) (e : CellLineEnd) (apart bad : Bool) (apart-told : apart
 
       module _ (room : g .count ≡ 1024 → ⊥) where
         fitting : Sized g
-        fitting = sized g (sym apart-told ∙ or-neither apart bad passed .0)
+        fitting = registerContradicts-sized g (sym apart-told ∙ or-neither apart bad passed .0)
 
         below : g .count < 1024
         below = below-room g fitting room
@@ -84,8 +84,8 @@ module _ (g : Register) (line column : ℕ) (apart : Bool) (apart-told : apart �
     agreeing : registerContradicts g ≡ false
     agreeing = sym apart-told ∙ or-neither apart (eqb line 0) (or-neither (apart || eqb line 0) (eqb column 0) passed .0) .0
 
-    pub searchable : Held (g .count) (g .lines) (g .starts) (g .eols)
-    searchable = held g agreeing
+    pub findAnswer-searchable : Held (g .count) (g .lines) (g .starts) (g .eols)
+    findAnswer-searchable = registerContradicts-held g agreeing
 
     module _ (small : ltb 65535 line || ltb 65535 column ≡ false) (last : ℕ) (told : lastAt g last ≡ lastEnd (select (reaches line column) (endsOf g))) where
       pub find-some : last < g .count → accept (some (getD (g .eols) last 0)) ≡ findAnswer g line column
@@ -97,10 +97,10 @@ module _ (g : Register) (line column : ℕ) (apart : Bool) (apart-told : apart �
       find-none h = rw (← apart-told, passed, small, ← told, le-ltb last (g .count) h)
 
       pub last-room : last < g .count → last < length (g .eols)
-      last-room h = omega (arith, h, searchable .eolRoom)
+      last-room h = omega (arith, h, findAnswer-searchable .eolRoom)
 
       pub last-fits : last < g .count → Fits w64 (last * 4)
-      last-fits h = fits-under w64 (last * 4) 4096 (omega (arith, h, sized g agreeing .count)) tt
+      last-fits h = fits-under w64 (last * 4) 4096 (omega (arith, h, registerContradicts-sized g agreeing .count)) tt
 
 -- ---- remapping
 module _ (count : ℕ) (lines bytes : List ℕ) (e : CellLineEnd) (bad : Bool) (bad-told : bad ≡ badEnd e) where
@@ -155,8 +155,8 @@ module _ (count : ℕ) (lines bytes : List ℕ) (e : CellLineEnd) (bad : Bool) (
         go (inr h) = rw (or-right large (far h))
 
       module _ (small : large || ltb 65535 byte ≡ false) where
-        pub limits : (e .start ≤ maxRegister) × (e .eol ≤ maxRegister) × (byte ≤ maxRegister)
-        limits =
+        pub remapAnswer-limits : (e .start ≤ maxRegister) × (e .eol ≤ maxRegister) × (byte ≤ maxRegister)
+        remapAnswer-limits =
             let both = or-neither large (ltb 65535 byte) small in
             let numbers = small-numbers e (sym large-told ∙ both .0) in
             (numbers .1, numbers .2, ltb-false 65535 byte (both .1))
@@ -169,6 +169,6 @@ module _ (count : ℕ) (lines bytes : List ℕ) (e : CellLineEnd) (bad : Bool) (
           unfolding remapAnswer remap
           moved-2 t = rw (← bad-told, passed, ← large-told, ← over-told, or-neither large (ltb 65535 byte) small .0, t)
 
-          pub remapped : over ≡ false → accept moved ≡ remapAnswer count lines bytes e
+          pub remapAnswer-accepted : over ≡ false → accept moved ≡ remapAnswer count lines bytes e
           unfolding remapAnswer remap
-          remapped t = rw (← bad-told, passed, ← large-told, ← over-told, or-neither large (ltb 65535 byte) small .0, t)
+          remapAnswer-accepted t = rw (← bad-told, passed, ← large-told, ← over-told, or-neither large (ltb 65535 byte) small .0, t)

@@ -22,7 +22,7 @@ use Rattle.grid.specs.Slots.{trimmedAt}
 use Rattle.grid.specs.Read.{drawingTooLarge, outsideSet, noRule}
 use Rattle.grid.specs.Flat.{FlatDrawing, drawingContradicts, splitText, linesWith, linesFrom, linesOf}
 use Rattle.representation.specs.LayoutParts.{widthAnswer}
-use Rattle.reading.specs.Agreement.{Agree, Limited}
+use Rattle.reading.specs.Agreement.{Agree, WithinLimits}
 use Rattle.reading.specs.Checks.{placeOf, LinesScanned}
 use Rattle.reading.specs.Call.{WidthTold}
 use Rattle.reading.specs.declared.Measured.the-variants.{Width, Refused}
@@ -84,33 +84,33 @@ module _ (lines bytes : ℕ) (lengths columns text : List ℕ) (a : Bool) (told 
   width-contradicted t = rw (← told, t)
 
   module _ (sized : a ≡ false) where
-    pub sizes : (length lengths ≡ lines) × (length columns ≡ lines) × (length text ≡ bytes) × (sum lengths ≡ bytes)
+    pub drawingContradicts-sizes : (length lengths ≡ lines) × (length columns ≡ lines) × (length text ≡ bytes) × (sum lengths ≡ bytes)
     unfolding drawingContradicts
-    sizes =
+    drawingContradicts-sizes =
         let e = all-four (eqb (length lengths) lines) (eqb (length columns) lines) (eqb (length text) bytes) (eqb (sum lengths) bytes) (sym told ∙ sized) in
         (eqb-true (length lengths) lines (e .0), eqb-true (length columns) lines (e .1), eqb-true (length text) bytes (e .2), eqb-true (sum lengths) bytes (e .3))
 
     pub adds-up : sum lengths ≡ length text
-    adds-up = omega (arith, sizes)
+    adds-up = omega (arith, drawingContradicts-sizes)
 
-    pub agrees : Agree lengths columns text
-    agrees = record { columnsAgree = omega (arith, sizes); bytesAgree = adds-up }
+    pub drawingContradicts-agree : Agree lengths columns text
+    drawingContradicts-agree = record { columnsAgree = omega (arith, drawingContradicts-sizes); bytesAgree = adds-up }
 
     pub width-no-lines : lines ≡ 0 → refuse 1 0 ≡ widthAnswer (drawing lines bytes lengths columns text)
     unfolding widthAnswer linesOf
-    width-no-lines z = let e : length lengths ≡ 0 = omega (arith, sizes) in rw (← told, sized, empty-lines lengths columns text e)
+    width-no-lines z = let e : length lengths ≡ 0 = omega (arith, drawingContradicts-sizes) in rw (← told, sized, empty-lines lengths columns text e)
 
     module _ (some-lines : lines ≡ 0 → ⊥) where
       pub some-length : 0 < length lengths
-      some-length = omega (arith, sizes)
+      some-length = omega (arith, drawingContradicts-sizes)
 
       module _ (b : Bool) (large-told : b ≡ drawingTooLarge (linesFrom lengths columns text)) where
         pub width-large : b ≡ true → refuse 2 0 ≡ widthAnswer (drawing lines bytes lengths columns text)
         unfolding widthAnswer linesOf
         width-large t = rw (← told, sized, lines-left lengths columns text some-length, ← large-told, t)
 
-        pub large-limits : b ≡ false → Limited lengths columns text
-        large-limits small = large-limited lengths columns text agrees b large-told small
+        pub large-limits : b ≡ false → WithinLimits lengths columns text
+        large-limits small = large-limited lengths columns text drawingContradicts-agree b large-told small
 
         module _ (small : b ≡ false) (glyphs offsets counts : List ℕ) (p : Place) (scanned : LinesScanned lengths columns text glyphs offsets counts p) where
           outside-told : outsideSet (linesFrom lengths columns text) ≡ placeOf p

@@ -24,7 +24,7 @@ use Rattle.reading.specs.declared.Measured.{Measured}
 use Rattle.reading.specs.declared.Measured.the-variants.{Width, Refused}
 use Rattle.reading.specs.declared.Outcome.{Outcome}
 use Rattle.reading.specs.Call.{WidthTold, ThroughAll, SheetArrays, sheetOf, Reading}
-use Rattle.reading.proofs.WidthLaws.{sheet-passed, bytes-few, width-told, width-fits, rooms}
+use Rattle.reading.proofs.WidthLaws.{sheet-passed, bytes-few, width-told, width-fits, spaceShort-rooms}
 
 -- ---- no refusal has number 0
 abbrev Numbered : Answer ℕ → Type 0
@@ -73,7 +73,7 @@ module _ (sheet : SheetArrays) (s : Outcome) where
 pub checks-room : (glyphs offsets down right rects : List ℕ) (b : Bool) → b ≡ spaceShort (spaces glyphs offsets down right rects) → b ≡ false
     → (slotSpace ≤ length glyphs) × (slotSpace ≤ length offsets) × (128 ≤ length rects)
 checks-room glyphs offsets down right rects b short enough =
-    let room = rooms glyphs offsets down right rects (sym short ∙ enough) in
+    let room = spaceShort-rooms glyphs offsets down right rects (sym short ∙ enough) in
     (room .0, room .1, omega (arith, room .4))
 
 -- ---- a drawing whose width is answered, in space enough: glyphs₁, offsets₁ and rects₁ as the checks leave them
@@ -87,7 +87,7 @@ module _ (lines bytes : ℕ) (lengths columns text glyphs₀ offsets₀ down rig
   sheet = sheet-passed lines bytes lengths columns text (width .0) answered
 
   room : (slotSpace ≤ length glyphs₀) × (slotSpace ≤ length offsets₀) × (slotSpace ≤ length down) × (slotSpace ≤ length right) × (rectSpace ≤ length rects₀)
-  room = rooms glyphs₀ offsets₀ down right rects₀ (sym short ∙ enough)
+  room = spaceShort-rooms glyphs₀ offsets₀ down right rects₀ (sym short ∙ enough)
 
   pub width-fillable : Fillable lengths columns text (width .0) rects₁ glyphs₁ offsets₁
   unfolding linesOf

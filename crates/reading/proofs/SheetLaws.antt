@@ -1,4 +1,4 @@
--- What a traced drawing's arrays say: its lines, its grid, and the rectangles, each inside it and laid in its borders.
+-- What a traced drawing's arrays say: its lines, its grid, and the rectangles, each gridAnswer-inside it and gridAnswer-laid in its borders.
 use Prim.Native.Nat.{ℕ, zero, suc, _+_, _*_, _≤_, _<_}
 use mathlib.Core.Path.{_≡_, refl, sym}
 use mathlib.Core.List.{List, List·Memᴰ, List·Memᴰ·head, List·Memᴰ·tail}
@@ -17,11 +17,11 @@ use Rattle.slots.specs.Filling.{separatorLines}
 use Rattle.representation.specs.LayoutEntries.{Inside}
 use Rattle.grid.specs.Cover.{Cover}
 use Rattle.representation.proofs.AgreeLaws.{Laid}
-use Rattle.representation.proofs.TracedLaws.{inside, laid, cover}
+use Rattle.representation.proofs.TracedLaws.{gridAnswer-inside, gridAnswer-laid, gridAnswer-cover}
 use Rattle.reading.specs.Call.{SheetArrays, linesIn, rectsIn, TracedSheet}
 use Rattle.reading.specs.declared.Outcome.{Outcome}
 
--- rectangles inside 128 by 128 have entries below 128
+-- rectangles gridAnswer-inside 128 by 128 have entries below 128
 rects-small : (n : ℕ) (rects : List ℕ) → ((r : Rect) → List·Memᴰ r (rectsOf n rects) → Inside 128 128 r) → (i : ℕ) → i < 4 * n → getD rects i 0 < 128
 unfolding rectsOf
 rects-small zero rects all i h = absurd (omega arith)
@@ -65,7 +65,7 @@ module _ (a : SheetArrays) (o : Outcome) (t : TracedSheet a o) where
 
   pub traced-inside : (r : Rect) → List·Memᴰ r (rectsIn a (o .cells)) → Inside 128 128 r
   traced-inside r m =
-      let i = inside (linesIn a) (rectsIn a (o .cells)) (a .glyphs) (a .offsets) traced-accepted traced-holds r m in
+      let i = gridAnswer-inside (linesIn a) (rectsIn a (o .cells)) (a .glyphs) (a .offsets) traced-accepted traced-holds r m in
       record { down = i .down; across = i .across; tall = omega (arith, traced-height, i .tall, t .roomy .heightFits); wide = omega (arith, traced-width, i .wide, t .roomy .widthFits) }
 
   pub traced-edges : (i : ℕ) → i < 4 * o .cells → getD (a .rects) i 0 < 128
@@ -75,10 +75,10 @@ module _ (a : SheetArrays) (o : Outcome) (t : TracedSheet a o) where
   traced-room = omega (arith, t .through .few, t .rectRoom)
 
   pub traced-laid : Laid (gridOf (linesIn a)) (rectsIn a (o .cells)) (a .glyphs) (a .offsets)
-  traced-laid = laid (linesIn a) (rectsIn a (o .cells)) (a .glyphs) (a .offsets) traced-accepted traced-holds
+  traced-laid = gridAnswer-laid (linesIn a) (rectsIn a (o .cells)) (a .glyphs) (a .offsets) traced-accepted traced-holds
 
   pub traced-cover : Cover (gridOf (linesIn a)) (rectsIn a (o .cells))
-  traced-cover = cover (linesIn a) (rectsIn a (o .cells)) (a .glyphs) (a .offsets) traced-accepted traced-holds
+  traced-cover = gridAnswer-cover (linesIn a) (rectsIn a (o .cells)) (a .glyphs) (a .offsets) traced-accepted traced-holds
 
   pub traced-some : 0 < length (a .lengths)
   traced-some = omega (arith, traced-height, traced-cover .tall)

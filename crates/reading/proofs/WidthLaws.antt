@@ -18,10 +18,10 @@ use Rattle.grid.specs.Flat.{drawingContradicts, linesFrom, linesOf}
 use Rattle.grid.specs.LayoutCall.{slotSpace, rectSpace, spaceShort, spaces, drawing}
 use Rattle.representation.specs.LayoutParts.{widthAnswer}
 use Rattle.grid.proofs.ReadLaws.{passed-if, passed-at}
-use Rattle.reading.specs.Agreement.{Agree, Limited}
+use Rattle.reading.specs.Agreement.{Agree, WithinLimits}
 use Rattle.reading.proofs.limits.LimitLaws.{large-limited}
 use Rattle.representation.specs.Sheet.{Sheet}
-use Rattle.reading.proofs.CheckedLaws.{agrees}
+use Rattle.reading.proofs.CheckedLaws.{drawingContradicts-agree}
 
 -- ---- a drawing whose width is answered
 module _ (lines bytes : ℕ) (lengths columns text : List ℕ) (width : ℕ) (e : accept width ≡ widthAnswer (drawing lines bytes lengths columns text)) where
@@ -47,9 +47,9 @@ module _ (lines bytes : ℕ) (lengths columns text : List ℕ) (width : ℕ) (e 
       (p0 .0, p2 .0, p3 .0, pw .0, cc)
 
   agreed : Agree lengths columns text
-  agreed = agrees lines bytes lengths columns text false (sym (checks .0)) refl
+  agreed = drawingContradicts-agree lines bytes lengths columns text false (sym (checks .0)) refl
 
-  limited : Limited lengths columns text
+  limited : WithinLimits lengths columns text
   limited = large-limited lengths columns text agreed false (sym (checks .1)) refl
 
   pub sheet-passed : Sheet lengths columns text
@@ -74,9 +74,9 @@ module _ (lines bytes : ℕ) (lengths columns text : List ℕ) (width : ℕ) (e 
 
 -- ---- working space that is not short
 module _ (glyphs offsets down right rects : List ℕ) (enough : spaceShort (spaces glyphs offsets down right rects) ≡ false) where
-  pub rooms : (slotSpace ≤ length glyphs) × (slotSpace ≤ length offsets) × (slotSpace ≤ length down) × (slotSpace ≤ length right) × (rectSpace ≤ length rects)
+  pub spaceShort-rooms : (slotSpace ≤ length glyphs) × (slotSpace ≤ length offsets) × (slotSpace ≤ length down) × (slotSpace ≤ length right) × (rectSpace ≤ length rects)
   unfolding spaceShort
-  rooms =
+  spaceShort-rooms =
       let a = ltb (length glyphs) slotSpace in
       let b = ltb (length offsets) slotSpace in
       let c = ltb (length down) slotSpace in

@@ -14,7 +14,7 @@ pub record Agree (lengths columns text : List ℕ) : Type 0 where
   pub bytesAgree : sum lengths ≡ length text
 
 -- and are within the limits
-pub record Limited (lengths columns text : List ℕ) : Type 0 where
+pub record WithinLimits (lengths columns text : List ℕ) : Type 0 where
   pub agreed : Agree lengths columns text
   pub fewLines : length lengths ≤ 128
   pub shortLines : (y : ℕ) → getD lengths y 0 ≤ 512

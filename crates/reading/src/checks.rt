@@ -11,7 +11,7 @@ ghost use Rattle.seq.specs.Lists.{sum, firstAt};
 ghost use Rattle.text.specs.Utf8.{wellFormed};
 ghost use Rattle.grid.specs.Flat.{drawingContradicts, splitText};
 ghost use Rattle.grid.specs.LayoutCall.{slotSpace, drawing};
-ghost use Rattle.reading.specs.Agreement.{Limited};
+ghost use Rattle.reading.specs.Agreement.{WithinLimits};
 ghost use Rattle.reading.specs.Checks.{placeOf, LinesScanned};
 
 // The first line at fault, or none.
@@ -82,7 +82,7 @@ pub fn scan_lines(
     offsets: &mut [u16],
     counts: &mut [u8],
 ) -> Place
-    requires { ⌜ Limited (now lengths) (now columns) (now text) ⌝ }
+    requires { ⌜ WithinLimits (now lengths) (now columns) (now text) ⌝ }
     requires { ⌜ (slotSpace ≤ length (now glyphs)) × (slotSpace ≤ length (now offsets)) × (128 ≤ length (now counts)) ⌝ }
     ensures { λ r.
         ⌜ LinesScanned (now (lengths .entry)) (now (columns .entry)) (now (text .entry))

@@ -28,7 +28,7 @@ use Rattle.grid.proofs.AnswerLaws.{refuseIf-passed}
 use Rattle.grid.proofs.CoverTheorems.{stopped-six-or-seven}
 use Rattle.grid.proofs.LayoutLaws.{columnLines-few, rowLines-few}
 use Rattle.grid.proofs.SizeLaws.{columns-count, rows-count, short-agrees}
-use Rattle.grid.proofs.ReadLaws.{Passed, passed, passed-if, refuseIf-later, accept-not-refuse, andThen-accepting, height-of, read-cover, read-few}
+use Rattle.grid.proofs.ReadLaws.{Passed, readRects-passed, passed-if, refuseIf-later, accept-not-refuse, andThen-accepting, height-of, read-cover, read-few}
 use Rattle.grid.proofs.ReadLaws.{read-limited, read-narrow, layout-read, readRects-stopped, readLayout-refused, readTable-refused}
 use Rattle.grid.proofs.CellLaws.{cutAt, cell-cuts}
 use Rattle.grid.proofs.CellTexts.{all-lines}
@@ -82,7 +82,7 @@ unfolding layoutOf
 layout-limits lines l e =
     let (rs, read, made) = layout-read lines l e in
     let g = gridOf lines in
-    let checks = passed lines rs read in
+    let checks = readRects-passed lines rs read in
     let few = read-limited checks in
     record {
       rects = rs;

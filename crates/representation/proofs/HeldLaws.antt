@@ -22,8 +22,8 @@ use Rattle.representation.specs.declared.Bounds.{Bounds}
 use Rattle.representation.specs.LayoutEntries.{linesHeld, Rising, Inside}
 
 -- ---- the lines that an array holds, two neighbours a turn
-pub nobody : Between
-nobody = record { from = 0; to = 0 }
+pub noBetween : Between
+noBetween = record { from = 0; to = 0 }
 
 module _ (b : Bounds) (k : ℕ) (rising : Rising b) where
   length-held : length (linesHeld b) ≡ b .count
@@ -36,9 +36,9 @@ module _ (b : Bounds) (k : ℕ) (rising : Rising b) where
   held-below size small i h = rw (getD-take (b .count) (b .lines) i 0 h) at (small (getD (linesHeld b) i 0) (getD-mem (linesHeld b) i 0 (omega (arith, length-held))))
 
   module _ (h : k + 1 < b .count) where
-    pub pair-at : getD (between (linesHeld b)) k nobody ≡ record { from = getD (b .lines) k 0; to = getD (b .lines) (k + 1) 0 }
+    pub pair-at : getD (between (linesHeld b)) k noBetween ≡ record { from = getD (b .lines) k 0; to = getD (b .lines) (k + 1) 0 }
     pair-at =
-        between-at (linesHeld b) k nobody (omega (arith, length-held))
+        between-at (linesHeld b) k noBetween (omega (arith, length-held))
         ∙ rw (getD-take (b .count) (b .lines) k 0 (omega arith), getD-take (b .count) (b .lines) (k + 1) 0 h)
 
     pub rises-here : getD (b .lines) k 0 < getD (b .lines) (k + 1) 0

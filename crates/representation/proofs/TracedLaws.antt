@@ -30,7 +30,7 @@ mem-some : {x : ℕ} (l : List ℕ) → List·Memᴰ x l → 1 ≤ length l
 mem-some [] m = absurd (List·Memᴰ·not-nil m)
 mem-some (y ∷ l) m = omega arith
 
--- a cover has a rectangle
+-- a gridAnswer-cover has a rectangle
 cover-some : (g : Grid) (rs : List Rect) → Cover g rs → (r : Rect) × List·Memᴰ r rs
 unfolding select
 cover-some g [] c = let z : _≡_ {A = ℕ} 0 1 = c .once 0 0 (c .tall) (c .wide) in absurd (omega arith)
@@ -49,32 +49,32 @@ module _ (lines : List Line) (rs : List Rect) (glyphs offsets : List ℕ) (e : g
   filled : (y : ℕ) → y < length lines → length (getD (gridOf lines .rows) y []) ≡ gridOf lines .width
   filled y low = row-filled (gridOf lines) (grid-accepted (gridOf lines) rs e .0) y (omega (arith, rows-length lines))
 
-  pub cover : Cover (gridOf lines) rs
-  cover = traced-covers (gridOf lines) rs (grid-accepted (gridOf lines) rs e .1) .0
+  pub gridAnswer-cover : Cover (gridOf lines) rs
+  gridAnswer-cover = traced-covers (gridOf lines) rs (grid-accepted (gridOf lines) rs e .1) .0
 
   pub rows-some : 1 ≤ length (rowLines (gridOf lines) rs)
-  rows-some = let r = cover-some (gridOf lines) rs cover in mem-some (rowLines (gridOf lines) rs) (top-line cover (r .1))
+  rows-some = let r = cover-some (gridOf lines) rs gridAnswer-cover in mem-some (rowLines (gridOf lines) rs) (top-line gridAnswer-cover (r .1))
 
   pub columns-some : 1 ≤ length (columnLines (gridOf lines) rs)
-  columns-some = let r = cover-some (gridOf lines) rs cover in mem-some (columnLines (gridOf lines) rs) (left-line cover (r .1))
+  columns-some = let r = cover-some (gridOf lines) rs gridAnswer-cover in mem-some (columnLines (gridOf lines) rs) (left-line gridAnswer-cover (r .1))
 
   tall : gridOf lines .height ≡ length lines
   unfolding gridOf
   tall = refl
 
-  pub inside : (r : Rect) → List·Memᴰ r rs → Inside (gridOf lines .height) (gridOf lines .width) r
-  inside r m =
-      let b = cover .first r m .bordered in
+  pub gridAnswer-inside : (r : Rect) → List·Memᴰ r rs → Inside (gridOf lines .height) (gridOf lines .width) r
+  gridAnswer-inside r m =
+      let b = gridAnswer-cover .first r m .bordered in
       record { down = b .topAboveBottom; across = b .leftBeforeRight; tall = b .bottomInside; wide = b .rightInside }
 
-  pub laid : Laid (gridOf lines) rs glyphs offsets
-  laid =
+  pub gridAnswer-laid : Laid (gridOf lines) rs glyphs offsets
+  gridAnswer-laid =
       record {
         tall = rows-length lines ∙ sym tall;
         full = λ y low. filled y (rw tall at low);
         held = h;
-        inside = inside;
-        aligned = rw tall (aligned lines (let c = cover .tall in omega (arith, tall)));
+        inside = gridAnswer-inside;
+        aligned = rw tall (aligned lines (let c = gridAnswer-cover .tall in omega (arith, tall)));
       }
 
   -- a range starts within its line
@@ -82,7 +82,7 @@ module _ (lines : List Line) (rs : List Rect) (glyphs offsets : List ℕ) (e : g
       → (r : Rect) → List·Memᴰ r rs → (y : ℕ) → r .top < y → y < r .bottom → codeAt offsets y (r .left) < 512
   small-bytes short r m y above below = rw (held-byte (gridOf lines) glyphs offsets h y (r .left) low left (filled y line)) byte where
     i : Inside (gridOf lines .height) (gridOf lines .width) r
-    i = inside r m
+    i = gridAnswer-inside r m
 
     line : y < length lines
     line = omega (arith, tall, i .tall)
@@ -122,9 +122,9 @@ module _ (lines : List Line) (rs : List Rect) (glyphs offsets : List ℕ) (e : g
     pub lefts-small : (x : ℕ) → List·Memᴰ x (linesHeld lefts) → x < 128
     lefts-small x m = let h = range-mem 0 (gridOf lines .width) x (select-mem _ _ (rw (d .listed) at m) .0) in omega arith
 
-    pub numbered : (r : Rect) → List·Memᴰ r rs → Numbered tops lefts r
-    numbered r m =
-        let i = inside r m in
+    pub gridAnswer-numbered : (r : Rect) → List·Memᴰ r rs → Numbered tops lefts r
+    gridAnswer-numbered r m =
+        let i = gridAnswer-inside r m in
         record {
           inside = record { down = i .down; across = i .across; tall = omega (arith, tall, i .tall); wide = omega (arith, i .wide) };
           topNumber = rw (c .listed) (c .indexed (r .top) (omega (arith, tall, i .down, i .tall)));

@@ -1,4 +1,4 @@
--- Laws of lists of numbers that rise, and of a number's position in one: how many are less than it.
+-- Laws of lists of numbers that rise, and of a number's rising-position in one: how many are less than it.
 use Prim.Native.Nat.{ℕ, zero, suc, _+_, _≤_, _<_}
 use mathlib.Core.Path.{_≡_, refl, sym, ap, _∙_}
 use mathlib.Core.Bool.{Bool, true, false}
@@ -55,14 +55,14 @@ pub record Position (l : List ℕ) (x : ℕ) : Type 0 where
   pub inside : count (λ n. ltb n x) l < length l
   pub here : getD l (count (λ n. ltb n x) l) 0 ≡ x
 
-pub position : (l : List ℕ) → neighbours ltb l ≡ true → {x : ℕ} → List·Memᴰ x l → Position l x
-position (a ∷ l) e {x} (List·Memᴰ·head q) =
+pub rising-position : (l : List ℕ) → neighbours ltb l ≡ true → {x : ℕ} → List·Memᴰ x l → Position l x
+rising-position (a ∷ l) e {x} (List·Memᴰ·head q) =
     let later : count (λ n. ltb n x) l ≡ 0 =
     count-none (λ n. ltb n x) l (λ n m t. omega (arith, ltb-true a n (sorted-head ltb rising-strict a l e m), ltb-true n x t)) in
     let none-below : count (λ n. ltb n x) (a ∷ l) ≡ 0 = omega (arith, count-cons (λ n. ltb n x) a l, bit-false (le-ltb a x (omega arith))) in
     record { inside = omega arith; here = rw none-below (sym q) }
-position (a ∷ l) e {x} (List·Memᴰ·tail m) =
-    let rest = position l (sorted-tail ltb a l e) m in
+rising-position (a ∷ l) e {x} (List·Memᴰ·tail m) =
+    let rest = rising-position l (sorted-tail ltb a l e) m in
     let one-more : count (λ n. ltb n x) (a ∷ l) ≡ suc (count (λ n. ltb n x) l) =
     omega (arith, count-cons (λ n. ltb n x) a l, bit-true (sorted-head ltb rising-strict a l e m)) in
     record { inside = omega (arith, rest .inside); here = rw one-more (rest .here) }
@@ -73,11 +73,11 @@ module _ (l : List ℕ) (rises : neighbours ltb l ≡ true) where
   at x = count (λ n. ltb n x) l
 
   earlier : {x i : ℕ} → List·Memᴰ x l → i < at x → getD l i 0 < x
-  earlier {x} {i} m h = let p = position l rises m in omega (arith, p .here, rising-getD l rises i (at x) h (p .inside))
+  earlier {x} {i} m h = let p = rising-position l rises m in omega (arith, p .here, rising-getD l rises i (at x) h (p .inside))
 
   later : {x i : ℕ} → List·Memᴰ x l → i < length l → at x ≤ i → x ≤ getD l i 0
   later {x} {i} m inside h =
-      let p = position l rises m in
+      let p = rising-position l rises m in
       ⊎-elim (λ (e : at x ≡ i). omega (arith, p .here, ap (λ (k : ℕ). getD l k 0) e)) (λ (k : at x < i). omega (arith, p .here, rising-getD l rises (at x) i k inside))
       (eq-or-lt-of-le h)
 
@@ -99,12 +99,12 @@ module _ (l : List ℕ) (rises : neighbours ltb l ≡ true) where
 
   pub position-lt : {x y : ℕ} → List·Memᴰ x l → List·Memᴰ y l → x < y → at x < at y
   position-lt {x} {y} m n h =
-      let p = position l rises m in
+      let p = rising-position l rises m in
       ltb-true (at x) (at y) (position-ltb n (at x) (p .inside) ∙ lt-ltb (getD l (at x) 0) y (omega (arith, p .here)))
 
   pub position-at : (i : ℕ) → i < length l → at (getD l i 0) ≡ i
   position-at i h =
       let m = getD-mem l i 0 h in
-      let p = position l rises m in
+      let p = rising-position l rises m in
       ⊎-elim (λ (k : at (getD l i 0) ≤ i). ⊎-elim (λ (e : at (getD l i 0) ≡ i). e) (λ (j : at (getD l i 0) < i). absurd (omega (arith, p .here, rising-getD l rises (at (getD l i 0)) i j h))) (eq-or-lt-of-le k))
       (λ (k : i < at (getD l i 0)). absurd (omega (arith, earlier m k))) (le-or-lt (at (getD l i 0)) i)

@@ -11,7 +11,7 @@ use lib.Dec.{eqb}
 use borrow.Author.Tests.{eqb-true, eq-eqb}
 use lib.ListN.{length, getD}
 use Rattle.seq.specs.Lists.{range, all, any, select, consIf, count, orNext, firstSome, firstAt, someIf, neighbours}
-use Rattle.seq.proofs.Tests.{true-not-false, and-left, and-right, and-intro, or-cases, or-left, or-right, refused, bit, bit-true, bit-false, bit-one}
+use Rattle.seq.proofs.Tests.{true-not-false, and-left, and-right, and-intro, or-cases, or-left, or-right, bool-refused, bit, bit-true, bit-false, bit-one}
 use Rattle.seq.proofs.Ranges.{mem-range, range-mem}
 use Rattle.seq.proofs.Positions.{getD-mem}
 
@@ -41,10 +41,10 @@ module _ {A : Type 0} (test : A → Bool) where
   mem-any (List·Memᴰ·tail {x} {xs} m) e = or-right (test x) (mem-any m e)
 
   pub any-none : {l : List A} → any test l ≡ false → {a : A} → List·Memᴰ a l → test a ≡ false
-  any-none e {a} m = refused (test a) (λ t. true-not-false (sym (mem-any m t) ∙ e))
+  any-none e {a} m = bool-refused (test a) (λ t. true-not-false (sym (mem-any m t) ∙ e))
 
   pub none-any : (l : List A) → ((a : A) → List·Memᴰ a l → test a ≡ false) → any test l ≡ false
-  none-any l h = refused (any test l) (λ e. let found = any-mem l e in true-not-false (sym (found .2) ∙ h (found .0) (found .1)))
+  none-any l h = bool-refused (any test l) (λ e. let found = any-mem l e in true-not-false (sym (found .2) ∙ h (found .0) (found .1)))
 
   pub select-mem : (l : List A) {a : A} → List·Memᴰ a (select test l) → List·Memᴰ a l × (test a ≡ true)
   unfolding select
@@ -95,7 +95,7 @@ module _ {A : Type 0} (test : A → Bool) where
   unfolding select
   count-none [] h = refl
   count-none (b ∷ l) h =
-      omega (arith, count-cons b l, bit-false (refused (test b) (h b (List·Memᴰ·head refl))), count-none l (λ a m. h a (List·Memᴰ·tail m)))
+      omega (arith, count-cons b l, bit-false (bool-refused (test b) (h b (List·Memᴰ·head refl))), count-none l (λ a m. h a (List·Memᴰ·tail m)))
 
   -- where exactly one passes, any two that pass are the same
   pub count-one : {l : List A} → count test l ≡ 1 → {a b : A} → List·Memᴰ a l → List·Memᴰ b l → test a ≡ true → test b ≡ true → a ≡ b

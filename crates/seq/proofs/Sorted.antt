@@ -3,7 +3,7 @@ use mathlib.Core.Path.{_≡_, refl, sym, ap, ap₂, subst, _∙_}
 use mathlib.Core.Bool.{Bool, true, false}
 use mathlib.Core.List.{List, [], _∷_, _++_, List·Memᴰ, List·Memᴰ·head, List·Memᴰ·tail, List·Memᴰ·not-nil, Memᴰ·append-right}
 use Rattle.seq.specs.Lists.{select, neighbours}
-use Rattle.seq.proofs.Tests.{true-not-false, and-left, and-right, and-intro, refused}
+use Rattle.seq.proofs.Tests.{true-not-false, and-left, and-right, and-intro, bool-refused}
 
 -- a strict order given by a test
 pub record Strict {A : Type 0} (before : A → A → Bool) : Type 0 where
@@ -71,13 +71,13 @@ module _ {A : Type 0} (before : A → A → Bool) where
     unfolding select
     none-before p [] h = refl
     none-before p (a ∷ l) h =
-        rw (refused (before a p) (λ e. apart (strict .transitive p a p (h a (List·Memᴰ·head refl)) e) refl)) (none-before p l (λ b m. h b (List·Memᴰ·tail m)))
+        rw (bool-refused (before a p) (λ e. apart (strict .transitive p a p (h a (List·Memᴰ·head refl)) e) refl)) (none-before p l (λ b m. h b (List·Memᴰ·tail m)))
 
     -- a sorted list: those that come before one of its elements, that element, and more
     pub sorted-split : (l : List A) → neighbours before l ≡ true → {p : A} → List·Memᴰ p l → (more : List A) × (l ≡ select (λ a. before a p) l ++ p ∷ more)
     unfolding select
     sorted-split (a ∷ l) e {p} (List·Memᴰ·head q) =
-        let not-self : before a p ≡ false = refused (before a p) (λ h. apart h (sym q)) in
+        let not-self : before a p ≡ false = bool-refused (before a p) (λ h. apart h (sym q)) in
         (l, rw (not-self, none-before p l (λ b m. subst (λ (z : A). before z b ≡ true) (sym q) (sorted-head a l e m))) (ap (λ (z : A). z ∷ l) (sym q)))
     sorted-split (a ∷ l) e {p} (List·Memᴰ·tail m) =
         let (more, rest) = sorted-split l (sorted-tail a l e) m in

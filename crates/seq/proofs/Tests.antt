@@ -76,9 +76,9 @@ pub or-right : (t : Bool) {u : Bool} → u ≡ true → t || u ≡ true
 or-right true e = refl
 or-right false e = e
 
-pub refused : (t : Bool) → (t ≡ true → ⊥) → t ≡ false
-refused true not-passed = absurd (not-passed refl)
-refused false not-passed = refl
+pub bool-refused : (t : Bool) → (t ≡ true → ⊥) → t ≡ false
+bool-refused true not-passed = absurd (not-passed refl)
+bool-refused false not-passed = refl
 
 pub le-or-lt : (a b : ℕ) → (a ≤ b) ⊎ (b < a)
 le-or-lt a b = go (leb a b) refl where

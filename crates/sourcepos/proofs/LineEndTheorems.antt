@@ -1,4 +1,4 @@
--- What finding gives, what adding leaves to be found, and that an end moved onto its fragment and added is found there.
+-- What finding gives, what adding leaves to be found, and that an end moved onto its fragment and addAnswer-added is found there.
 use Prim.Native.Nat.{ℕ, _+_, _-_, _≤_}
 use mathlib.Core.Path.{_≡_, refl, sym, ap, _∙_}
 use mathlib.Core.Bool.{true, false, not, _&&_, _||_}
@@ -9,7 +9,7 @@ use lib.Dec.{eqb, ltb}
 use lib.ListN.{length, getD}
 use borrow.Author.Tests.{eq-eqb, ne-eqb, le-leb, le-ltb}
 use Rattle.seq.specs.Lists.{select}
-use Rattle.seq.proofs.Tests.{true-not-false, or-neither, refused}
+use Rattle.seq.proofs.Tests.{true-not-false, or-neither, bool-refused}
 use Rattle.seq.proofs.Positions.{mem-last}
 use Rattle.seq.proofs.Searches.{select-mem, mem-select}
 use Rattle.seq.proofs.Gathered.{select-append}
@@ -21,7 +21,7 @@ use Rattle.sourcepos.specs.LineEnds.{reaches, lastEnd, eolOf, findEol, r
 use Rattle.sourcepos.specs.LineEndCalls.{Register, registerContradicts, endsOf, badEnd, endTooLarge, addAnswer, addAfterwards, findAnswer, remapAnswer}
 use Rattle.sourcepos.specs.LineEndPromises.{LastReaching}
 use Rattle.sourcepos.proofs.LineEndLaws.{lastEnd-none, lastEnd-some}
-use Rattle.sourcepos.proofs.RegisterLaws.{good-numbers, small-numbers, sized-agrees, added, one, added-register, added-sized, added-ends}
+use Rattle.sourcepos.proofs.RegisterLaws.{good-numbers, small-numbers, sized-agrees, addAnswer-added, one, added-register, added-sized, added-ends}
 
 -- ---- what is found
 module _ (g : Register) (line column : ℕ) where
@@ -59,7 +59,7 @@ module _ (g : Register) (line column : ℕ) where
 
   -- where none is found, none reaches the place
   pub find-none : findAnswer g line column ≡ accept none → (e : CellLineEnd) → List·Memᴰ e (endsOf g) → reaches line column e ≡ false
-  find-none n e m = refused (reaches line column e) (λ r. elim (rw (none-selected n) at (mem-select (reaches line column) m r)) [ ])
+  find-none n e m = bool-refused (reaches line column e) (λ r. elim (rw (none-selected n) at (mem-select (reaches line column) m r)) [ ])
 
 -- ---- what adding leaves to be found
 unreached : (line column : ℕ) (e : CellLineEnd) (es : List CellLineEnd) → reaches line column e ≡ false
@@ -79,7 +79,7 @@ add-elsewhere g e line column apart = go (addAnswer g e) refl where
   go : (a : Answer ℕ) → addAnswer g e ≡ a → findAnswer (addAfterwards g e) line column ≡ findAnswer g line column
   go (refuse number place) q = rw q
   go (accept n) q =
-      rw (q, sized-agrees (one g e n q) (added-sized g e n q), added g e n q .agrees, added-ends g e n q, unreached line column e (endsOf g) beside)
+      rw (q, sized-agrees (one g e n q) (added-sized g e n q), addAnswer-added g e n q .agrees, added-ends g e n q, unreached line column e (endsOf g) beside)
 
 -- ---- an end moved onto its fragment
 module _ (count : ℕ) (lines bytes : List ℕ) (e f : CellLineEnd) (g : Register) (n column : ℕ)
@@ -107,8 +107,8 @@ module _ (count : ℕ) (lines bytes : List ℕ) (e f : CellLineEnd) (g : Registe
   unfolding findAnswer remap
   allowed =
       let told = moved .1 in
-      let small = small-numbers f (added g f n r .small) in
-      let kept = good-numbers f (added g f n r .good) in
+      let small = small-numbers f (addAnswer-added g f n r .small) in
+      let kept = good-numbers f (addAnswer-added g f n r .good) in
       let given = good-numbers e (moved .0) in
       let onLine : f .line ≡ line = ap (λ (d : CellLineEnd). d .line) told in
       let toEol : f .eol ≡ byte + e .eol = ap (λ (d : CellLineEnd). d .eol) told in
@@ -135,7 +135,7 @@ module _ (count : ℕ) (lines bytes : List ℕ) (e f : CellLineEnd) (g : Registe
       ∙ ap (λ (l : List CellLineEnd). eolOf (lastEnd l)) (select-append (reaches line (byte + column)) (endsOf g) (f ∷ []))
       ∙ rw (none-selected g line (byte + column) none-before, reached) (ap (λ (d : CellLineEnd). some (d .eol)) (moved .1))
 
-  -- an end moved onto its fragment and then added is found there: what is found is the last of the ends that reach, and where none was
+  -- an end moved onto its fragment and then addAnswer-added is found there: what is found is the last of the ends that reach, and where none was
   -- found before, it is this one
   pub remap-add-find : (eol : ℕ) × (findAnswer (addAfterwards g f) line (byte + column) ≡ accept (some eol))
       × LastReaching (addAfterwards g f) line (byte + column) eol × (findAnswer g line (byte + column) ≡ accept none → eol ≡ byte + e .eol)

@@ -43,9 +43,9 @@ pub record Sized (g : Register) : Type 0 where
   pub eols : length (g .eols) ≡ registerRoom
   pub count : g .count ≤ registerRoom
 
-pub sized : (g : Register) → registerContradicts g ≡ false → Sized g
+pub registerContradicts-sized : (g : Register) → registerContradicts g ≡ false → Sized g
 unfolding registerContradicts
-sized g e =
+registerContradicts-sized g e =
     let (l, s) : Bool × Bool = (eqb (length (g .lines)) registerRoom, eqb (length (g .starts)) registerRoom) in
     let (o, c) : Bool × Bool = (eqb (length (g .eols)) registerRoom, leb (g .count) registerRoom) in
     let four = not-false (l && s && o && c) e in
@@ -79,14 +79,14 @@ pub record Added (g : Register) (e : CellLineEnd) (n : ℕ) : Type 0 where
   pub room : g .count < registerRoom
   pub next : n ≡ g .count + 1
 
-pub added : (g : Register) (e : CellLineEnd) (n : ℕ) → addAnswer g e ≡ accept n → Added g e n
+pub addAnswer-added : (g : Register) (e : CellLineEnd) (n : ℕ) → addAnswer g e ≡ accept n → Added g e n
 unfolding addAnswer
-added g e n q =
+addAnswer-added g e n q =
     let first = passed-if (registerContradicts g || badEnd e) 13 _ n q in
     let second = passed-if (endTooLarge e) 2 _ n (first .1) in
     let third = passed-if (eqb (g .count) registerRoom) 14 _ n (second .1) in
     let neither = or-neither (registerContradicts g) (badEnd e) (first .0) in
-    let room = below-room g (sized g (neither .0)) (eqb-false (g .count) registerRoom (third .0)) in
+    let room = below-room g (registerContradicts-sized g (neither .0)) (eqb-false (g .count) registerRoom (third .0)) in
     let same : g .count + 1 ≡ n = cc in
     record { agrees = neither .0; good = neither .1; small = second .0; room = room; next = sym same }
 
@@ -107,8 +107,8 @@ module _ (g : Register) (e : CellLineEnd) (n : ℕ) (q : addAnswer g e ≡ accep
 
   pub added-sized : Sized one
   added-sized =
-      let passed = added g e n q in
-      let z = sized g (passed .agrees) in
+      let passed = addAnswer-added g e n q in
+      let z = registerContradicts-sized g (passed .agrees) in
       record {
         lines = length-set (g .lines) (g .count) (e .line) ∙ z .lines;
         starts = length-set (g .starts) (g .count) (e .start) ∙ z .starts;
@@ -127,8 +127,8 @@ module _ (g : Register) (e : CellLineEnd) (n : ℕ) (q : addAnswer g e ≡ accep
 
   newest : endAt one (g .count) ≡ e
   newest =
-      let passed = added g e n q in
-      let z = sized g (passed .agrees) in
+      let passed = addAnswer-added g e n q in
+      let z = registerContradicts-sized g (passed .agrees) in
       rw (
         getD-set-same (g .lines) (g .count) (e .line) 0 (omega (arith, passed .room, z .lines)),
         getD-set-same (g .starts) (g .count) (e .start) 0 (omega (arith, passed .room, z .starts)),
@@ -138,7 +138,7 @@ module _ (g : Register) (e : CellLineEnd) (n : ℕ) (q : addAnswer g e ≡ accep
   pub added-ends : endsOf one ≡ endsOf g ++ e ∷ []
   unfolding endsOf
   added-ends =
-      ap (λ (m : ℕ). map (endAt one) (upTo m)) (added g e n q .next)
+      ap (λ (m : ℕ). map (endAt one) (upTo m)) (addAnswer-added g e n q .next)
       ∙ ap (map (endAt one)) (range-step 0 (g .count))
       ∙ map-append (endAt one) (upTo (g .count)) ((0 + g .count) ∷ [])
       ∙ rw (zero-add (g .count), newest) (ap (λ (l : List CellLineEnd). l ++ e ∷ []) (map-same (endAt one) (endAt g) (upTo (g .count)) (λ i m. earlier i (omega (arith, range-mem 0 (g .count) i m .1)))))

@@ -77,18 +77,18 @@ module _ (s : TableSizes) (t : TableArrays) {a : Bool} (told : a ≡ tableContra
   pub lines-add-up : sum (t .lengths) ≡ length (t .text)
   lines-add-up = sized .lengthsAgree ∙ sym (sized .bytesAgree)
 
-  pub agree : (length (t .columns) ≡ 2 * s .columns) × Agree (s .cells) (t .cells) (t .lengths) (t .text)
-  agree = (
+  pub tableContradicts-agree : (length (t .columns) ≡ 2 * s .columns) × Agree (s .cells) (t .cells) (t .lengths) (t .text)
+  tableContradicts-agree = (
     sized .colsRoom,
     record { cellsRoom = sized .cellsRoom; linesAgree = sized .countsAgree ∙ sym (sized .linesAgree); bytesAgree = lines-add-up },
   )
 
-  pub placed : (origin : ℕ) {l : Bool}
+  pub checkTable-placed : (origin : ℕ) {l : Bool}
       → l ≡ tableTooLarge origin (tableIn (s .columns) (s .cells) (t .columns) (t .sections) (t .cells) (t .lengths) (t .text)) → l ≡ false
       → CellsPlaced (s .columns) (s .cells) (t .sections) (t .cells)
-  placed origin large small =
+  checkTable-placed origin checkTable-large small =
       let table = tableIn (s .columns) (s .cells) (t .columns) (t .sections) (t .cells) (t .lengths) (t .text) in
-      let shape = shape-limits table (tableTooLarge-parts origin table (sym large ∙ small) .1) in
+      let shape = shape-limits table (tableTooLarge-parts origin table (sym checkTable-large ∙ small) .1) in
       record {
         cellsRoom = sized .cellsRoom;
         narrow = omega (arith, shape .columns, columns-length (s .columns) (t .columns));
@@ -121,8 +121,8 @@ module _ (origin : ℕ) (s : TableSizes) (t : TableArrays) where
   refusal {number} {place} {r} q e = subst Told (sym q) (e, (λ f. absurd (not-fine f)), (λ f. absurd (not-fine f)))
 
   module _ {a : Bool} (a-told : a ≡ tableContradicts s t) where
-    pub contradicted : a ≡ true → {r : Checked} → r ≡ Refused 13 0 → Told r
-    contradicted e q = refusal q (λ next. rw (← a-told, e))
+    pub checkTable-contradicted : a ≡ true → {r : Checked} → r ≡ Refused 13 0 → Told r
+    checkTable-contradicted e q = refusal q (λ next. rw (← a-told, e))
 
     module _ (fit : a ≡ false) {b : Bool}
         (b-told : (u : Table) → length (u .columns) ≡ s .columns → length (u .sections) ≡ s .rows → length (u .cells) ≡ s .cells → b ≡ tableEmpty u) where
@@ -138,14 +138,14 @@ module _ (origin : ℕ) (s : TableSizes) (t : TableArrays) where
           b-told table (columns-length (s .columns) (t .columns)) (length-map (t .sections) codeSection ∙ agreed .rowsAgree)
           (cells-length (s .cells) (t .cells) (splitText (t .lengths) (t .text)))
 
-      pub empty : b ≡ true → {r : Checked} → r ≡ Refused 1 0 → Told r
+      pub checkTable-empty : b ≡ true → {r : Checked} → r ≡ Refused 1 0 → Told r
       unfolding checkTable
-      empty e q = refusal q (λ next. rw (rest next, ← is-empty, e))
+      checkTable-empty e q = refusal q (λ next. rw (rest next, ← is-empty, e))
 
       module _ (some : b ≡ false) {l : Bool} (l-told : l ≡ tableTooLarge origin table) where
-        pub large : l ≡ true → {r : Checked} → r ≡ Refused 2 0 → Told r
+        pub checkTable-large : l ≡ true → {r : Checked} → r ≡ Refused 2 0 → Told r
         unfolding checkTable
-        large e q = refusal q (λ next. rw (rest next, ← is-empty, some, ← l-told, e))
+        checkTable-large e q = refusal q (λ next. rw (rest next, ← is-empty, some, ← l-told, e))
 
         module _ (small : l ≡ false) (p : Place) (p-told : placeOf p ≡ firstAt (λ line. not (wellFormed line)) 0 (splitText (t .lengths) (t .text))) where
           outside-told : tableOutsideSet table ≡ placeOf p
@@ -155,21 +155,21 @@ module _ (origin : ℕ) (s : TableSizes) (t : TableArrays) where
               let counted = agreed .countsAgree ∙ sym (agreed .linesAgree) ∙ sym (length-split (t .lengths) (t .text)) in
               rw (lines-whole (s .cells) (t .cells) lines (omega (arith, counted))) (sym p-told)
 
-          pub outside : {y : ℕ} → p ≡ At y → {r : Checked} → r ≡ Refused 3 y → Told r
+          pub checkTable-outside : {y : ℕ} → p ≡ At y → {r : Checked} → r ≡ Refused 3 y → Told r
           unfolding checkTable
-          outside e q = refusal q (λ next. rw (rest next, ← is-empty, some, ← l-told, small, outside-told, e))
+          checkTable-outside e q = refusal q (λ next. rw (rest next, ← is-empty, some, ← l-told, small, outside-told, e))
 
           module _ (inside : p ≡ Nowhere) {k : Bool} (k-told : k ≡ keepsRules (gridIn (s .columns) (s .cells) (t .sections) (t .cells))) where
             rules-told : keepsRules table ≡ k
             rules-told = rules-placed (s .columns) (s .cells) (t .columns) (t .sections) (t .cells) (t .lengths) (t .text) ∙ sym k-told
 
-            pub broken : not k ≡ true → {r : Checked} → r ≡ Refused 8 0 → Told r
+            pub checkTable-broken : not k ≡ true → {r : Checked} → r ≡ Refused 8 0 → Told r
             unfolding checkTable
-            broken e q = refusal q (λ next. rw (rest next, ← is-empty, some, ← l-told, small, outside-told, inside, rules-told, e))
+            checkTable-broken e q = refusal q (λ next. rw (rest next, ← is-empty, some, ← l-told, small, outside-told, inside, rules-told, e))
 
-            pub kept : not k ≡ false → Told Fine
+            pub checkTable-kept : not k ≡ false → Told Fine
             unfolding checkTable
-            kept e = (
+            checkTable-kept e = (
               (λ next. sym (rest next ∙ rw (← is-empty, some, ← l-told, small, outside-told, inside, rules-told, e))),
               (λ f. tabled),
               (λ f. (sym (agreed .rowsAgree), sym (agreed .linesAgree), sym (agreed .bytesAgree))),

@@ -19,7 +19,7 @@ use Rattle.grid.specs.Rectangle.{firstRect}
 use Rattle.grid.specs.Trace.{Traced, covered, stopped, placed, lowest, leftmost, standsLevel, raise, keepLevel, nextRect, allDown, traceFrom, trace}
 use Rattle.grid.specs.Cover.{Bordered}
 use Rattle.grid.proofs.RectangleLaws.{rect, found-first}
-use Rattle.grid.proofs.SkylineLaws.{Corner as LowestColumn, corner, raise-before, raise-inside, raise-after, next-found}
+use Rattle.grid.proofs.SkylineLaws.{Corner as LowestColumn, leftmost-corner, raise-before, raise-inside, raise-after, next-found}
 use Rattle.grid.proofs.TraceLaws.{trace-done, trace-stuck, trace-full, trace-next}
 use Rattle.trace.specs.Search.{foundRect}
 use Rattle.trace.specs.Skylines.{Sky, skyOf}
@@ -70,7 +70,7 @@ first-bounds {height} {width} glyphs {top} {left} {f} {bottom} {right} found at 
 
 module _ {width : ℕ} {sky : Skyline} {c : Corner} (low : Lowest width sky c) where
   there : LowestColumn (skyOf sky)
-  there = corner (skyOf sky) (omega (arith, sky-length (low .shape), low .shape .some))
+  there = leftmost-corner (skyOf sky) (omega (arith, sky-length (low .shape), low .shape .some))
 
   pub left-inside : c .left < width
   left-inside = omega (arith, there .inside, low .atLeftmost, low .columns, sky-length (low .shape))
@@ -134,7 +134,7 @@ ground-lowest count many = (low, ⊎-elim (λ (h : leftmost sky ≤ 0). omega ar
   long = length-replicate {A = ℕ} count 0
 
   column : LowestColumn sky
-  column = corner sky (omega (arith, long))
+  column = leftmost-corner sky (omega (arith, long))
 
   low : 0 ≡ lowest sky
   low = omega (arith, column .low, getD-replicate {A = ℕ} count (leftmost sky) 0 0 (omega (arith, column .inside, long)))

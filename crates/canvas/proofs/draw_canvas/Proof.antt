@@ -1,5 +1,5 @@
 -- `canvas::draw_canvas` meets its contract: borders, corners over them, and colons over both.
-use Rattle.canvas.proofs.PictureLaws.{pictured}
+use Rattle.canvas.proofs.PictureLaws.{canvas-pictured}
 use borrow.Author.Needs.{needs}
 use Rattle.canvas.proofs.draw_canvas.Statement.{statement}
 use Rattle.canvas.proofs.draw_canvas.Tie as tie
@@ -23,7 +23,7 @@ returns c v D =
     let corners : tie.After-draw-corners = search needs in
     let borders : tie.After-draw-borders = search needs in
     let (_, (inside, _)) = start .pre in
-    pictured D inside (borders .draw-borders .ensures) (corners .draw-corners .ensures) (colons .draw-colons .ensures)
+    canvas-pictured D inside (borders .draw-borders .ensures) (corners .draw-corners .ensures) (colons .draw-colons .ensures)
 
 pub draw-canvas-spec : {M : Type 1} → statement M
 draw-canvas-spec =

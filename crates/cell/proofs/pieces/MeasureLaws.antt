@@ -79,8 +79,8 @@ module _ (s : Source) (top left bottom right : ℕ) where
 
     module _ (ready : SourceReady s) (y : ℕ) (low : top < y) (high : y < bottom) (t : List ℕ)
         (told : t ≡ cutBetween s left right y) where
-      pub short : length t ≤ 512
-      short =
+      pub cut-short : length t ≤ 512
+      cut-short =
           rw told
           (let c = framed .borders y low high in
           omega (arith, cut-shorter (getD (linesFrom (s .lengths) (s .columns) (s .text)) y noLine) y 0 (record { start = codeAt (s .offsets) y left + 1; end = codeAt (s .offsets) y right }) left, c .inside, ready .sheet .shortLines y))
@@ -93,7 +93,7 @@ module _ (s : Source) (top left bottom right : ℕ) where
 
       module _ {lines bytes : ℕ} (m : Measuring lines bytes y) where
         pub measuring-fits : Fits w64 (bytes + length t)
-        measuring-fits = fits-under w64 (bytes + length t) 131072 (omega (arith, m .fewBytes, short, framed .inside .tall)) tt
+        measuring-fits = fits-under w64 (bytes + length t) 131072 (omega (arith, m .fewBytes, cut-short, framed .inside .tall)) tt
 
         summed-more : bytes + length t ≡ sum (map length (above (y + 1)))
         summed-more = rw (m .summed, next) (sym (sum-end (above y) t))
@@ -104,7 +104,7 @@ module _ (s : Source) (top left bottom right : ℕ) where
               counted = is ∙ m .counted ∙ rw (next, none-left t none) (ap length (sym (kept-empty (above y))));
               summed = summed-more;
               fewLines = omega (arith, is, m .fewLines);
-              fewBytes = omega (arith, m .fewBytes, short);
+              fewBytes = omega (arith, m .fewBytes, cut-short);
             } where
               none-left : (t : List ℕ) → length t ≡ 0 → t ≡ []
               none-left [] e = refl
@@ -116,5 +116,5 @@ module _ (s : Source) (top left bottom right : ℕ) where
               counted = rw (next, kept-filled (above y) t some, length-end (above y) t, length-map (range (top + 1) (y - top - 1)) (cutBetween s left right), length-range (top + 1) (y - top - 1)) (omega arith);
               summed = summed-more;
               fewLines = omega arith;
-              fewBytes = omega (arith, m .fewBytes, short);
+              fewBytes = omega (arith, m .fewBytes, cut-short);
             })

@@ -10,7 +10,7 @@ use lib.Dec.{eqb}
 use lib.ListN.{length, getD, drop, set, replicate, length-append, length-drop, length-replicate, length-set, drop-of-length-le, List·getD-eq-default, getD-replicate, List·getD-append}
 use lib.Seq.{drop-at, drop-drop, getD-drop, getD-set-same, getD-set-other}
 use borrow.Author.Tests.{eqb-true}
-use Rattle.seq.proofs.Tests.{le-or-lt, or-cases, refused, cond-false}
+use Rattle.seq.proofs.Tests.{le-or-lt, or-cases, bool-refused, cond-false}
 use Rattle.text.specs.declared.Decoded.the-variants.{Character}
 use Rattle.text.specs.Characters.{plus, span}
 use Rattle.text.specs.Columns.{columnsFrom}
@@ -138,7 +138,7 @@ module _ {line : List ℕ} {first from i : ℕ} {before lines : List ℕ} {byte 
 
           -- a character of another number of columns than one shows nothing
           hidden : (count ≡ 1 → ⊥) → shown ≡ false
-          hidden h = refused shown (λ e. h (spans ∙ vertical-one (first + n) value (sym show ∙ e)))
+          hidden h = bool-refused shown (λ e. h (spans ∙ vertical-one (first + n) value (sym show ∙ e)))
 
           new : (z : ℕ) → from + n ≤ z → z < from + (n + count)
               → getD (set lines (from + n) more) z 0 ≡ cond (showsAt first line (z - from) && eqb (getD before z 0) i) (i + 1) (getD before z 0)

@@ -10,7 +10,7 @@ use lib.Dec.{eqb}
 use lib.ListN.{length, getD, List·getD-eq-default}
 use borrow.Author.Tests.{ne-eqb}
 use Rattle.seq.specs.Lists.{range, upTo, all}
-use Rattle.seq.proofs.Tests.{bool-same, refused, true-not-false, and-left, and-right, and-intro}
+use Rattle.seq.proofs.Tests.{bool-same, bool-refused, true-not-false, and-left, and-right, and-intro}
 use Rattle.seq.proofs.Ranges.{range-mem}
 use Rattle.seq.proofs.Searches.{any-agree, none-any, any-none, all-range, range-all}
 use Rattle.text.specs.Characters.{plus}
@@ -92,7 +92,7 @@ module _ {v : Canvas} {n width : ℕ} {b : Board} {canvas : List ℕ} (R : Canva
   -- the first inner column is blank
   gap-blank : all (λ y. vertical (glyphAt g y (r .left + 1))) (innerLines r) ≡ false
   gap-blank =
-      refused _ (λ e. true-not-false
+      bool-refused _ (λ e. true-not-false
       (sym (all-range (λ y. vertical (glyphAt g y (r .left + 1))) (r .top + 1) (r .bottom - r .top - 1) e (r .top + 1) (omega arith) (omega (arith, s .tall)))
       ∙ ap vertical (glyphAt-gap (B .lined) origin m (r .top + 1) (omega arith) (omega (arith, s .tall)))))
 
@@ -130,7 +130,7 @@ module _ {v : Canvas} {n width : ℕ} {b : Board} {canvas : List ℕ} (R : Canva
       sym
       (none-any _ (range (r .left + 1) (r .right - r .left - 1)) (λ x e.
       let (i, j) = range-mem (r .left + 1) (r .right - r .left - 1) x e in
-      refused _ (λ t. lost x (omega arith) (omega arith) (and-right (plusAt g (r .top) x && plusAt g (r .bottom) x) _ t)))) where
+      bool-refused _ (λ t. lost x (omega arith) (omega arith) (and-right (plusAt g (r .top) x && plusAt g (r .bottom) x) _ t)))) where
         lost : (x : ℕ) → r .left < x → x < r .right → all (λ y. vertical (glyphAt g y x)) (innerLines r) ≡ true → ⊥
         lost x i j e =
             ⊎-elim
@@ -153,7 +153,7 @@ module _ {v : Canvas} {n width : ℕ} {b : Board} {canvas : List ℕ} (R : Canva
       let (i, j) = range-mem (r .left + 1) (r .right - r .left - 1) x e in
       let p : r .left < x = omega arith in
       let q : x < r .right = omega arith in
-      refused _ (λ t.
+      bool-refused _ (λ t.
       let both = and-left (plusAt g (r .top) x && plusAt g (r .bottom) x) _ t in
       let top = sym (plus-code (r .top) (inl refl) x p q) ∙ and-left (plusAt g (r .top) x) (plusAt g (r .bottom) x) both in
       let bottom = sym (plus-code (r .bottom) (inr refl) x p q) ∙ and-right (plusAt g (r .top) x) (plusAt g (r .bottom) x) both in

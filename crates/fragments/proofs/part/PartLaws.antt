@@ -14,12 +14,12 @@ use Rattle.fragments.specs.declared.part.Start.{Start}
 use Rattle.fragments.specs.Part.{Checked, Begins, Pieced}
 
 -- trimmed, then cut at its first byte
-pub pieced : (text : List ℕ) (column : Column) (start end : ByteAt) (left : Column) → Checked text column start end left
+pub cut-pieced : (text : List ℕ) (column : Column) (start end : ByteAt) (left : Column) → Checked text column start end left
     → (trimmed : List ℕ) → trimmed ≡ trimEnd (take (end .0 - start .0) (drop (start .0) text))
     → (begun : Start) → Begins trimmed start (record { 0 = column .0 + left .0 + 1 }) begun
     → Pieced text column start end left (record { start = begun .byte; end = record { 0 = start .0 + length trimmed }; column = begun .column })
 unfolding cut cutNumbers
-pieced text column start end left c trimmed told begun begins =
+cut-pieced text column start end left c trimmed told begun begins =
     let short : length trimmed ≤ end .0 - start .0 =
     rw told (omega (arith, trim-shorter (take (end .0 - start .0) (drop (start .0) text)), length-take (end .0 - start .0) (drop (start .0) text))) in
     let over : begun .byte .0 + length (drop (begun .byte .0 - start .0) trimmed) ≡ start .0 + length trimmed =

@@ -38,8 +38,8 @@ module _ {d e : List ℕ} {at r : ℕ} (code : ℕ) where
   pub center-written : (code ≡ 1 → ⊥) → (code ≡ 2 → ⊥) → code ≡ 3 → Wrote d at (ascii " align=\"center\"") e r → Wrote d at (alignAttribute (codeAlignment code)) e r
   center-written f g h p = rw (ne-eqb code 1 f, ne-eqb code 2 g, eq-eqb code 3 h) p
 
-pub unaligned : (d : List ℕ) (at code : ℕ) → (code ≡ 1 → ⊥) → (code ≡ 2 → ⊥) → (code ≡ 3 → ⊥) → Wrote d at (alignAttribute (codeAlignment code)) d at
-unaligned d at code f g h = rw (ne-eqb code 1 f, ne-eqb code 2 g, ne-eqb code 3 h) (wrote-none d at)
+pub alignAttribute-none : (d : List ℕ) (at code : ℕ) → (code ≡ 1 → ⊥) → (code ≡ 2 → ⊥) → (code ≡ 3 → ⊥) → Wrote d at (alignAttribute (codeAlignment code)) d at
+alignAttribute-none d at code f g h = rw (ne-eqb code 1 f, ne-eqb code 2 g, ne-eqb code 3 h) (wrote-none d at)
 
 pub attributes-written : {d e f g i : List ℕ} {at across down end r : ℕ} (colspan rowspan code : ℕ) → Wrote d at (spanAttribute (ascii "colspan") colspan) e across
     → Wrote e across (spanAttribute (ascii "rowspan") rowspan) f down → Wrote f down (alignAttribute (codeAlignment code)) g end → Wrote g end (ascii ">") i r

@@ -133,9 +133,9 @@ module _ (s : PageSizes) (t : PageArrays) where
       (pageCells-places (s .cells) (t .cells) (t .inner))
 
   module _ {a : Bool} (a-told : a ≡ pageContradicts s t) where
-    pub contradicted : a ≡ true → Told (Refused 13 0)
+    pub checkPage-contradicted : a ≡ true → Told (Refused 13 0)
     unfolding pageAccepts
-    contradicted e = refusal (λ widths out. rw (← a-told, e))
+    checkPage-contradicted e = refusal (λ widths out. rw (← a-told, e))
 
     module _ (fit : a ≡ false) where
       all-agreed : Agreed s t
@@ -152,18 +152,18 @@ module _ (s : PageSizes) (t : PageArrays) where
             b-told table (columns-length (s .columns) (t .columns)) (length-map (t .sections) codeSection ∙ all-agreed .rowsAgree)
             (pageCells-length (s .cells) (t .cells) (t .inner))
 
-        pub empty : b ≡ true → Told (Refused 1 0)
+        pub checkPage-empty : b ≡ true → Told (Refused 1 0)
         unfolding pageAccepts pageBytes
-        empty e = refusal (λ widths out. rw (← a-told, fit, ← is-empty, e))
+        checkPage-empty e = refusal (λ widths out. rw (← a-told, fit, ← is-empty, e))
 
         module _ (some : b ≡ false) {l : Bool}
             (l-told : (sections cells inner : List ℕ) → length sections ≡ s .rows → l ≡ pageTooLarge s (pageTable s (arrays (t .columns) sections cells inner))) where
           is-large : l ≡ pageTooLarge s table
           is-large = l-told (t .sections) (t .cells) (t .inner) (all-agreed .rowsAgree)
 
-          pub large : l ≡ true → Told (Refused 2 0)
+          pub checkPage-large : l ≡ true → Told (Refused 2 0)
           unfolding pageAccepts pageBytes
-          large e = refusal (λ widths out. rw (← a-told, fit, ← is-empty, some, ← is-large, e))
+          checkPage-large e = refusal (λ widths out. rw (← a-told, fit, ← is-empty, some, ← is-large, e))
 
           module _ (small : l ≡ false) where
             limits : (s .columns ≤ 127) × (length (t .sections) ≤ 127) × (s .cells ≤ 1024) × (s .bytes ≤ 32768)
@@ -177,17 +177,17 @@ module _ (s : PageSizes) (t : PageArrays) where
                   ltb-false 32768 (s .bytes) bytes,
                 )
 
-            pub placed : CellsPlaced (s .columns) (s .cells) (t .sections) (t .cells)
-            placed = record { cellsRoom = all-agreed .cellsRoom; narrow = limits .0; low = limits .1; codes = all-agreed .sectionCodes }
+            pub checkPage-placed : CellsPlaced (s .columns) (s .cells) (t .sections) (t .cells)
+            checkPage-placed = record { cellsRoom = all-agreed .cellsRoom; narrow = limits .0; low = limits .1; codes = all-agreed .sectionCodes }
 
             module _ {k : Bool} (k-told : k ≡ keepsRules grid) where
-              pub broken : not k ≡ true → Told (Refused 8 0)
+              pub checkPage-broken : not k ≡ true → Told (Refused 8 0)
               unfolding pageAccepts pageBytes
-              broken e = refusal (λ widths out. rw (← a-told, fit, ← is-empty, some, ← is-large, small, rules-told, ← k-told, e))
+              checkPage-broken e = refusal (λ widths out. rw (← a-told, fit, ← is-empty, some, ← is-large, small, rules-told, ← k-told, e))
 
-              pub kept : not k ≡ false → Told Fine
+              pub checkPage-kept : not k ≡ false → Told Fine
               unfolding pageAccepts pageBytes pageWithin
-              kept e = (
+              checkPage-kept e = (
                 (λ widths out. sym (rw (← a-told, fit, ← is-empty, some, ← is-large, small, rules-told, ← k-told, e) refl)),
                 (λ f. paged),
               ) where

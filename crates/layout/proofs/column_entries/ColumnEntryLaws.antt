@@ -11,7 +11,7 @@ use Rattle.grid.specs.Answer.{over}
 use Rattle.grid.specs.Layout.{Between, between}
 use Rattle.representation.specs.declared.Bounds.{Bounds}
 use Rattle.representation.specs.LayoutEntries.{linesHeld, Rising, alignmentFrom, columnEntries}
-use Rattle.representation.proofs.HeldLaws.{nobody, length-pairs, pair-at}
+use Rattle.representation.proofs.HeldLaws.{noBetween, length-pairs, pair-at}
 
 pub record ColumnsWritten (glyphs offsets line : List ℕ) (a : ℕ) (columns : Bounds) (buffer : List ℕ) (k : ℕ) (out : List ℕ) : Type 0 where
   pub entries : Written (λ (b : Between). alignmentFrom glyphs offsets line a (b .from) ∷ (b .to - b .from - 1) ∷ []) (between (linesHeld columns)) 0 buffer k out
@@ -29,7 +29,7 @@ module _ (glyphs offsets line : List ℕ) (a : ℕ) (columns : Bounds) (buffer :
         (set (set out (2 * k) s) (2 * k + 1) (getD (columns .lines) (k + 1) 0 - getD (columns .lines) k 0 - 1))
     columnsWritten-next s h room e =
         let step =
-        write-sets columnEntry (between (linesHeld columns)) 0 buffer out k nobody (omega (arith, length-pairs columns k rising)) (w .entries) 2 (λ b. refl)
+        write-sets columnEntry (between (linesHeld columns)) 0 buffer out k noBetween (omega (arith, length-pairs columns k rising)) (w .entries) 2 (λ b. refl)
         (rw (length-pairs columns k rising) (omega arith)) in
         record { entries = rw (e, add-one (2 * k)) (rw (pair-at columns k rising h, zero-add) at step) }
 

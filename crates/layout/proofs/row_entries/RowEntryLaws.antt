@@ -12,7 +12,7 @@ use Rattle.grid.specs.Layout.{Between, between}
 use Rattle.representation.specs.declared.Bounds.{Bounds}
 use Rattle.representation.specs.declared.Parts.{Parts}
 use Rattle.representation.specs.LayoutEntries.{linesHeld, Rising, sectionFrom, rowEntries}
-use Rattle.representation.proofs.HeldLaws.{nobody, length-pairs, pair-at}
+use Rattle.representation.proofs.HeldLaws.{noBetween, length-pairs, pair-at}
 
 pub record RowsWritten (p : Parts) (rows : Bounds) (buffer : List ℕ) (k : ℕ) (out : List ℕ) : Type 0 where
   pub entries : Written (λ (b : Between). sectionFrom p (b .from) ∷ b .from ∷ b .to ∷ []) (between (linesHeld rows)) 0 buffer k out
@@ -26,7 +26,7 @@ module _ (p : Parts) (rows : Bounds) (buffer out : List ℕ) (k : ℕ) (rising :
   rowsWritten-next s h room e =
       let two : 3 * k + 2 ≡ suc (suc (3 * k)) = omega arith in
       let step =
-      write-sets (λ (b : Between). sectionFrom p (b .from) ∷ b .from ∷ b .to ∷ []) (between (linesHeld rows)) 0 buffer out k nobody
+      write-sets (λ (b : Between). sectionFrom p (b .from) ∷ b .from ∷ b .to ∷ []) (between (linesHeld rows)) 0 buffer out k noBetween
       (omega (arith, length-pairs rows k rising)) (w .entries) 3 (λ b. refl) (rw (length-pairs rows k rising) (omega arith)) in
       record { entries = rw (e, two, add-one (3 * k)) (rw (pair-at rows k rising h, zero-add) at step) }
 

@@ -89,9 +89,9 @@ module _ (w : LayoutSpace) (d : FlatDrawing) (out : LayoutArrays) (agree : drawi
       let small = layout-small (linesOf d) l made in
       (omega (arith, b, small .columns), omega (arith, c, small .rows), omega (arith, x, small .cells), rw (a, b, c, x, f) (table-of l made))
 
-  pub told : (r : LayoutAnswer) (after : LayoutArrays) → layoutAnswerOf r ≡ layoutAnswer w d out → after ≡ layoutAfterwards w d out
+  pub layoutAnswer-told : (r : LayoutAnswer) (after : LayoutArrays) → layoutAnswerOf r ≡ layoutAnswer w d out → after ≡ layoutAfterwards w d out
       → LayoutToldOf (linesOf d) after (readLayout (linesOf d)) r
-  told r after e f = told-by (readLayout (linesOf d)) r after refl (e ∙ answer-all) (f ∙ after-all)
+  layoutAnswer-told r after e f = told-by (readLayout (linesOf d)) r after refl (e ∙ answer-all) (f ∙ after-all)
 
 -- The lines that are handed in, with fresh working space
 
@@ -113,7 +113,7 @@ module _ (lengths text cols rows cells : List ℕ) (few : length lengths ≤ 128
       → LayoutTold lengths text cols′ rows′ cells′ r
   layoutTold-call rooms r cols′ rows′ cells′ ranges′ e f =
       as-told (layoutLent cols′ rows′ cells′ ranges′) r
-      (told freshSpace (sheetOf lengths text) (layoutLent cols rows cells (zeroes 32768)) (sheet-agrees lengths text few whole) fresh-enough
+      (layoutAnswer-told freshSpace (sheetOf lengths text) (layoutLent cols rows cells (zeroes 32768)) (sheet-agrees lengths text few whole) fresh-enough
       (record { columns = rooms .0; rows = rooms .1; cells = rooms .2; ranges = length-zeroes 32768 }) r (layoutLent cols′ rows′ cells′ ranges′) e f)
 
 -- What is printed of an answer

@@ -14,7 +14,7 @@ use Rattle.grid.specs.Read.{readLayout}
 use Rattle.grid.specs.LayoutCall.{LayoutArrays, layoutArrays, layoutShort}
 use Rattle.grid.proofs.LayoutLaws.{columnLines-few, rowLines-few}
 use Rattle.grid.proofs.SizeLaws.{columns-count, rows-count, short-agrees}
-use Rattle.grid.proofs.ReadLaws.{Passed, passed, height-of, read-few, read-limited, read-narrow, layout-read}
+use Rattle.grid.proofs.ReadLaws.{Passed, readRects-passed, height-of, read-few, read-limited, read-narrow, layout-read}
 use Rattle.grid.proofs.CellTexts.{all-lines}
 
 -- A layout that is read
@@ -27,7 +27,7 @@ pub record LayoutRead (lines : List Line) (l : Layout) : Type 0 where
 pub layoutRead-made : (lines : List Line) (l : Layout) → readLayout lines ≡ accept l → LayoutRead lines l
 layoutRead-made lines l e =
     let (rs, read, made) = layout-read lines l e in
-    record { rects = rs; checks = passed lines rs read; made = made }
+    record { rects = rs; checks = readRects-passed lines rs read; made = made }
 
 pub record LayoutSmall (l : Layout) : Type 0 where
   pub columns : length (l .columns) ≤ 127

@@ -5,7 +5,7 @@ use mathlib.Core.List.{List, [], _∷_, _++_, map, flatMap, List·Memᴰ, List·
 use native.Mathlib.Omega.{arith}
 use lib.ListN.{length, getD, length-map}
 use Rattle.seq.proofs.Ranges.{length-range}
-use Rattle.seq.proofs.Rising.{position, position-lt}
+use Rattle.seq.proofs.Rising.{rising-position, position-lt}
 use Rattle.grid.specs.Values.{Rect, GridTableColumn, Row, Cell}
 use Rattle.grid.specs.Slots.{Grid}
 use Rattle.grid.specs.Layout.{Between, between, rowLines, indexOf, sectionAt, rowsRead, innerLines, contentAt, cellRead}
@@ -79,8 +79,8 @@ module _ (g : Grid) where
     unfolding rowsRead cellRead indexOf
     inner-rect r m =
         let rise = rowLines-rise g rs in
-        let top = position (rowLines g rs) rise (top-line cover m) in
-        let bottom = position (rowLines g rs) rise (bottom-line cover m) in
+        let top = rising-position (rowLines g rs) rise (top-line cover m) in
+        let bottom = rising-position (rowLines g rs) rise (bottom-line cover m) in
         let deep = position-lt (rowLines g rs) rise (top-line cover m) (bottom-line cover m) (cover .first r m .bordered .topAboveBottom) in
         let a = indexOf (rowLines g rs) (r .top) in
         let b = indexOf (rowLines g rs) (r .bottom) in

@@ -1,5 +1,5 @@
 -- `line_ends::find` meets its contract: each check refuses, or the end that was searched for answers.
-use Rattle.line_ends.proofs.CallLaws.{find-13, find-2, searchable, find-some, find-none, last-room, last-fits}
+use Rattle.line_ends.proofs.CallLaws.{find-13, find-2, findAnswer-searchable, find-some, find-none, last-room, last-fits}
 use borrow.Author.Needs.{needs}
 use Rattle.line_ends.proofs.find.Statement.{statement}
 use Rattle.line_ends.proofs.find.Tie as tie
@@ -21,7 +21,7 @@ returns-2 : tie.Need-returns-2
 returns-2 c = find-2 _ _ _ _ (c .before .before .contradicts .ensures) (c .before .if1 .left) (c .if2 .taken)
 
 last-end-requires : tie.Need-last-end-requires
-last-end-requires c κs = searchable _ (begun c .args .line) (begun c .args .column) _ (c .before .before .contradicts .ensures) (c .before .if1 .left)
+last-end-requires c κs = findAnswer-searchable _ (begun c .args .line) (begun c .args .column) _ (c .before .before .contradicts .ensures) (c .before .if1 .left)
 
 mul-t13 : tie.Need-mul-t13
 mul-t13 c =

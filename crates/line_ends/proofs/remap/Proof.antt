@@ -1,5 +1,5 @@
 -- `line_ends::remap` meets its contract: each check refuses, the last one the sums, or the end is moved.
-use Rattle.line_ends.proofs.CallLaws.{remap-13, fragment-there, line-held, byte-held, remap-2, limits, moved-2, remapped}
+use Rattle.line_ends.proofs.CallLaws.{remap-13, fragment-there, line-held, byte-held, remap-2, remapAnswer-limits, moved-2, remapAnswer-accepted}
 use denote.Ref.{now}
 use native.Mathlib.Omega.{arith}
 use mir.Syntax.{w32}
@@ -69,14 +69,14 @@ add-t19 c =
     let e = c .before .before in
     let x = placed (e .before .before) in
     let a = begun (tested x) .args in
-    fits-under w32 _ 131071 (omega (arith, limits (a .count) (now (a .lines)) (now (a .bytes)) _ _ (tested x .bad-end .ensures) (x .if1 .left) _ (e .before .end-too-large .ensures) (e .if2 .left))) tt
+    fits-under w32 _ 131071 (omega (arith, remapAnswer-limits (a .count) (now (a .lines)) (now (a .bytes)) _ _ (tested x .bad-end .ensures) (x .if1 .left) _ (e .before .end-too-large .ensures) (e .if2 .left))) tt
 
 add-t20 : tie.Need-add-t20
 add-t20 c =
     let e = small c in
     let x = placed (e .before .before) in
     let a = begun (tested x) .args in
-    fits-under w32 _ 131071 (omega (arith, limits (a .count) (now (a .lines)) (now (a .bytes)) _ _ (tested x .bad-end .ensures) (x .if1 .left) _ (e .before .end-too-large .ensures) (e .if2 .left))) tt
+    fits-under w32 _ 131071 (omega (arith, remapAnswer-limits (a .count) (now (a .lines)) (now (a .bytes)) _ _ (tested x .bad-end .ensures) (x .if1 .left) _ (e .before .end-too-large .ensures) (e .if2 .left))) tt
 
 end-too-large-requires-2 : tie.Need-end-too-large-requires-2
 end-too-large-requires-2 c κs = search needs
@@ -91,7 +91,7 @@ returns-4 : tie.Need-returns-4
 returns-4 c =
     let e = small (c .before .before) in
     let x = placed (e .before .before) in
-    remapped _ _ _ _ _ (tested x .bad-end .ensures) (x .if1 .left) _ (e .before .end-too-large .ensures) (e .if2 .left) _ (c .before .end-too-large2 .ensures) (c .if3 .left)
+    remapAnswer-accepted _ _ _ _ _ (tested x .bad-end .ensures) (x .if1 .left) _ (e .before .end-too-large .ensures) (e .if2 .left) _ (c .before .end-too-large2 .ensures) (c .if3 .left)
 
 pub remap-spec : {M : Type 1} → statement M
 remap-spec =

@@ -14,7 +14,7 @@ use Rattle.grid.specs.Flat.{FlatDrawing, drawingContradicts, splitText, linesWi
 use Rattle.grid.specs.LayoutCall.{LayoutSpace, spaceShort, drawing}
 use Rattle.grid.specs.TableCall.{startsShort}
 use Rattle.reading.specs.Agreement.{anyOver}
-use Rattle.reading.proofs.CheckedLaws.{sizes}
+use Rattle.reading.proofs.CheckedLaws.{drawingContradicts-sizes}
 use Rattle.sourcepos.specs.PositionsCall.{FlatPlaced, placed, placedContradicts, numbersTooLarge}
 use Rattle.positions.specs.Parts.{placedNumber}
 
@@ -45,7 +45,7 @@ module _ (w : LayoutSpace) (starts lines bytes : ℕ) (lengths columns text numb
 
     pub placedContradicts-lengths : (length numbers ≡ length lengths) × (length tableBytes ≡ length lengths)
     placedContradicts-lengths =
-        let sized = sizes lines bytes lengths columns text (drawingContradicts d) refl (or-neither (drawingContradicts d) (spaceShort w) (placedContradicts-passed .0) .0) .0 in
+        let sized = drawingContradicts-sizes lines bytes lengths columns text (drawingContradicts d) refl (or-neither (drawingContradicts d) (spaceShort w) (placedContradicts-passed .0) .0) .0 in
         let both = not-false (eqb (length numbers) lines && eqb (length tableBytes) lines) (spaced .1) in
         let first = eqb-true (length numbers) lines (and-left (eqb (length numbers) lines) (eqb (length tableBytes) lines) both) in
         let second = eqb-true (length tableBytes) lines (and-right (eqb (length numbers) lines) (eqb (length tableBytes) lines) both) in

@@ -18,7 +18,7 @@ use Rattle.grid.specs.Layout.{Between, between}
 use Rattle.grid.specs.Flat.{splitText, linesFrom}
 use Rattle.representation.specs.declared.Bounds.{Bounds}
 use Rattle.representation.specs.LayoutEntries.{linesHeld, Rising}
-use Rattle.representation.proofs.HeldLaws.{nobody, length-pairs, held-below, pair-at}
+use Rattle.representation.proofs.HeldLaws.{noBetween, length-pairs, held-below, pair-at}
 use Rattle.reading.proofs.CheckedLaws.{line-end, line-trimmed, trimmed-text}
 use Rattle.sourcepos.specs.Positions.{Sourcepos, Placed, wholeLines, noLines}
 use Rattle.sourcepos.specs.PositionsCall.{fourNumbers}
@@ -97,7 +97,7 @@ module _ (lengths text numbers tableBytes : List ℕ) where
       next : (columns : List ℕ)
           → Written (λ b. fourNumbers (span columns b)) (between (linesHeld rows)) 0 buffer (k + 1) out′
       next columns =
-          fourNumbers-next (span columns) (between (linesHeld rows)) buffer out k nobody
+          fourNumbers-next (span columns) (between (linesHeld rows)) buffer out k noBetween
           (rw (length-pairs rows k rising) (omega arith)) (rw (length-pairs rows k rising) room) (w .entries columns) s (told columns ∙ rw (pair-at rows k rising h)) out′ g
 
     pub rowSpansWritten-all : rows .count ≤ k + 1 → (columns : List ℕ) → out ≡ over (rowSpans (drawn columns) (linesHeld rows)) buffer

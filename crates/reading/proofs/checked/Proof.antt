@@ -1,5 +1,5 @@
 -- `reading::checked` meets its contract: each return by its law.
-use Rattle.reading.proofs.CheckedLaws.{width-contradicted, adds-up, agrees, width-no-lines, some-length, width-large, large-limits, width-outside, width-no-rule, rule-told-plain, width-too-wide, width-measured, refused-told}
+use Rattle.reading.proofs.CheckedLaws.{width-contradicted, adds-up, drawingContradicts-agree, width-no-lines, some-length, width-large, large-limits, width-outside, width-no-rule, rule-told-plain, width-too-wide, width-measured, refused-told}
 use borrow.Author.Needs.{needs}
 use Rattle.reading.proofs.checked.Statement.{statement}
 use Rattle.reading.proofs.checked.Tie as tie
@@ -14,7 +14,7 @@ returns-2 : tie.Need-returns-2
 returns-2 c = refused-told _ _ _ _ _ _ (search (needs, width-no-lines))
 
 too-large-requires : tie.Need-too-large-requires
-too-large-requires c κs = search (needs, agrees)
+too-large-requires c κs = search (needs, drawingContradicts-agree)
 
 returns-3 : tie.Need-returns-3
 returns-3 c = refused-told _ _ _ _ _ _ (search (needs, width-large))

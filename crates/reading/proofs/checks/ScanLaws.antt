@@ -17,7 +17,7 @@ use Rattle.grid.specs.LayoutCall.{slotSpace}
 use Rattle.grid.proofs.SlotLaws.{lines-length, line-at}
 use Rattle.slots.specs.Scan.{LineKnown, ScanRoom, NextScanned}
 use Rattle.slots.proofs.scan.ScannedLaws.{known-kept}
-use Rattle.reading.specs.Agreement.{Limited}
+use Rattle.reading.specs.Agreement.{WithinLimits}
 use Rattle.reading.specs.Checks.{LinesScanned}
 use Rattle.reading.specs.declared.checks.Place.the-variants.{At, Nowhere}
 use Rattle.reading.proofs.checks.CheckLaws.{outside-here, inside-here, none-outside}
@@ -45,7 +45,7 @@ lines-start lengths columns text glyphs offsets counts =
       known = λ k h. absurd (omega arith);
     }
 
-module _ (lengths columns text glyphs₀ offsets₀ counts₀ glyphs offsets counts : List ℕ) (at y : ℕ) (limited : Limited lengths columns text)
+module _ (lengths columns text glyphs₀ offsets₀ counts₀ glyphs offsets counts : List ℕ) (at y : ℕ) (limited : WithinLimits lengths columns text)
     (so-far : LinesSoFar lengths columns text glyphs₀ offsets₀ counts₀ glyphs offsets counts at y) where
   pub line-short : getD lengths y 0 < 2 ^ 64
   line-short = omega (arith, limited .shortLines y)

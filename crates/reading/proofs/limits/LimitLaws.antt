@@ -12,7 +12,7 @@ use Rattle.seq.proofs.Tests.{or-neither}
 use Rattle.grid.specs.Limits.{maxLines, maxLineBytes, maxBytes, maxOrigin}
 use Rattle.grid.specs.Flat.{linesFrom}
 use Rattle.grid.specs.Read.{drawingTooLarge}
-use Rattle.reading.specs.Agreement.{Agree, Limited, anyOver}
+use Rattle.reading.specs.Agreement.{Agree, WithinLimits, anyOver}
 use Rattle.seq.proofs.Walks.{any-step, any-end}
 use Rattle.grid.proofs.FlatLaws.{length-lines, lengths-lines, any-line-too-large}
 
@@ -53,7 +53,7 @@ module _ (lengths columns text : List ℕ) (agree : Agree lengths columns text) 
   other-limits s t h e f = rw (limits-apart, le-ltb maxLines (length lengths) h, e, f)
 
   -- a drawing that is not too large
-  pub large-limited : (b : Bool) → b ≡ drawingTooLarge (linesFrom lengths columns text) → b ≡ false → Limited lengths columns text
+  pub large-limited : (b : Bool) → b ≡ drawingTooLarge (linesFrom lengths columns text) → b ≡ false → WithinLimits lengths columns text
   large-limited b told small =
       let most = ltb maxLines (length lengths) in
       let s = anyOver maxLineBytes lengths in

@@ -11,7 +11,7 @@ use Rattle.grid.specs.Answer.{Answer, accept, refuse, andThen}
 use Rattle.grid.specs.Values.{Line, Table}
 use Rattle.grid.specs.Read.{drawingTooLarge}
 use Rattle.grid.specs.Flat.{FlatDrawing, TableSizes, TableArrays, splitText, linesWith, linesOf, flatDrawing, tableContradicts, tableOfArrays}
-use Rattle.grid.proofs.ReadLaws.{andThen-accepting, limited}
+use Rattle.grid.proofs.ReadLaws.{andThen-accepting, drawingTooLarge-limited}
 use Rattle.grid.proofs.FlatDrawingLaws.{drawing-again, joinText-length}
 use Rattle.grid.specs.Listing.{refusedLine}
 use Rattle.drawing.specs.Plain.{canvasOf, canvasLines}
@@ -94,7 +94,7 @@ module _ (s : TableSizes) (t : TableArrays) (agree : tableContradicts s t ≡ fa
   drawn-few ls e =
       let (p, q) = accepted-passes 0 T ls e in
       let small = drawnTooLarge-parts (canvasOf T) (canvasLines 0 (canvasOf T)) (p .notTooLarge) .1 in
-      let few = limited ls (ap drawingTooLarge (q ∙ drawn-lines 0 T) ∙ small) in
+      let few = drawingTooLarge-limited ls (ap drawingTooLarge (q ∙ drawn-lines 0 T) ∙ small) in
       (few .fewLines, few .fewBytes)
 
   drawn-told : (n : DrawingSizes) → Redrawn freshRedraw 0 s t lentDrawing n → (after : DrawingArrays)

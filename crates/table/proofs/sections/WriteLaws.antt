@@ -16,7 +16,7 @@ use Rattle.grid.specs.Layout.{Between, between}
 use Rattle.representation.specs.declared.Bounds.{Bounds}
 use Rattle.representation.specs.declared.Parts.{Parts}
 use Rattle.representation.specs.LayoutEntries.{linesHeld, Rising, sectionFrom}
-use Rattle.representation.proofs.HeldLaws.{nobody, length-pairs, pair-at}
+use Rattle.representation.proofs.HeldLaws.{noBetween, length-pairs, pair-at}
 use Rattle.representation.specs.TableEntries.{sectionEntries}
 
 pub record SectionsWritten (p : Parts) (tops : Bounds) (buffer : List ℕ) (k : ℕ) (out : List ℕ) : Type 0 where
@@ -38,7 +38,7 @@ module _ (p : Parts) (tops : Bounds) (buffer out : List ℕ) (k : ℕ) (rising :
   section-next s h room e =
       let at : 0 + 1 * k ≡ k = omega arith in
       let step =
-      write-sets (λ (b : Between). sectionFrom p (b .from) ∷ []) (between (linesHeld tops)) 0 buffer out k nobody
+      write-sets (λ (b : Between). sectionFrom p (b .from) ∷ []) (between (linesHeld tops)) 0 buffer out k noBetween
       (omega (arith, length-pairs tops k rising)) (w .entries) 1 (λ b. refl) (rw (length-pairs tops k rising) (omega arith)) in
       record { entries = rw e (rw (pair-at tops k rising h, at) at step) }
 

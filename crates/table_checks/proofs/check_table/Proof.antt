@@ -1,5 +1,5 @@
 -- `table_checks::check_table` meets its contract: each return by its law, from the checks before it.
-use Rattle.table_checks.proofs.CheckLaws.{lines-add-up, agree, placed, contradicted, empty, large, outside, broken, kept}
+use Rattle.table_checks.proofs.CheckLaws.{lines-add-up, tableContradicts-agree, checkTable-placed, checkTable-contradicted, checkTable-empty, checkTable-large, checkTable-outside, checkTable-broken, checkTable-kept}
 use borrow.Author.Needs.{needs}
 use Rattle.table_checks.proofs.check_table.Statement.{statement}
 use Rattle.table_checks.proofs.check_table.Tie as tie
@@ -21,7 +21,7 @@ refusal-requires : tie.Need-refusal-requires
 refusal-requires c κs = search needs
 
 returns : tie.Need-returns
-returns c = contradicted _ _ _ (c .before .before .contradicts .ensures) (c .before .if1 .taken) (c .refusal .ensures)
+returns c = checkTable-contradicted _ _ _ (c .before .before .contradicts .ensures) (c .before .if1 .taken) (c .refusal .ensures)
 
 table-empty-requires : tie.Need-table-empty-requires
 table-empty-requires c κs = search needs
@@ -33,10 +33,10 @@ returns-2 : tie.Need-returns-2
 returns-2 c =
     let f = c .before in
     let a = f .before .before in
-    empty _ _ _ (a .before .contradicts .ensures) (a .if1 .left) (f .before .table-empty .ensures) (f .if2 .taken) (c .refusal2 .ensures)
+    checkTable-empty _ _ _ (a .before .contradicts .ensures) (a .if1 .left) (f .before .table-empty .ensures) (f .if2 .taken) (c .refusal2 .ensures)
 
 too-large-requires : tie.Need-too-large-requires
-too-large-requires c κs = agree _ _ (past-13 c .before .contradicts .ensures) (past-13 c .if1 .left)
+too-large-requires c κs = tableContradicts-agree _ _ (past-13 c .before .contradicts .ensures) (past-13 c .if1 .left)
 
 refusal-requires-3 : tie.Need-refusal-requires-3
 refusal-requires-3 c κs = search needs
@@ -46,7 +46,7 @@ returns-3 c =
     let f = c .before in
     let b = f .before .before in
     let a = past-13 b in
-    large _ _ _ (a .before .contradicts .ensures) (a .if1 .left) (b .before .table-empty .ensures) (b .if2 .left)
+    checkTable-large _ _ _ (a .before .contradicts .ensures) (a .if1 .left) (b .before .table-empty .ensures) (b .if2 .left)
     (f .before .too-large .ensures) (f .if3 .taken) (c .refusal3 .ensures)
 
 first-outside-requires : tie.Need-first-outside-requires
@@ -65,7 +65,7 @@ returns-4 c =
     let d = o .before in
     let b = past-1 d in
     let a = past-13 b in
-    outside _ _ _ (a .before .contradicts .ensures) (a .if1 .left) (b .before .table-empty .ensures) (b .if2 .left)
+    checkTable-outside _ _ _ (a .before .contradicts .ensures) (a .if1 .left) (b .before .table-empty .ensures) (b .if2 .left)
     (d .before .too-large .ensures) (d .if3 .left) _ (o .first-outside .ensures) (f .before .y .given .1) (c .refusal4 .ensures)
 
 enum-told : tie.Need-enum-told
@@ -75,7 +75,7 @@ keeps-rules-requires : tie.Need-keeps-rules-requires
 keeps-rules-requires c κs =
     let d = past-2 c in
     let a = past-13 (past-1 d) in
-    placed _ _ (a .before .contradicts .ensures) (a .if1 .left) _ (d .before .too-large .ensures) (d .if3 .left)
+    checkTable-placed _ _ (a .before .contradicts .ensures) (a .if1 .left) _ (d .before .too-large .ensures) (d .if3 .left)
 
 refusal-requires-5 : tie.Need-refusal-requires-5
 refusal-requires-5 c κs = search needs
@@ -87,7 +87,7 @@ returns-5 c =
     let d = past-2 o in
     let b = past-1 d in
     let a = past-13 b in
-    broken _ _ _ (a .before .contradicts .ensures) (a .if1 .left) (b .before .table-empty .ensures) (b .if2 .left)
+    checkTable-broken _ _ _ (a .before .contradicts .ensures) (a .if1 .left) (b .before .table-empty .ensures) (b .if2 .left)
     (d .before .too-large .ensures) (d .if3 .left) _ (o .before .before .first-outside .ensures) (o .enum-told .given .1)
     (f .before .keeps-rules .ensures) (f .if4 .taken) (c .refusal5 .ensures)
 
@@ -97,7 +97,7 @@ returns-6 c =
     let d = past-2 o in
     let b = past-1 d in
     let a = past-13 b in
-    kept _ _ _ (a .before .contradicts .ensures) (a .if1 .left) (b .before .table-empty .ensures) (b .if2 .left)
+    checkTable-kept _ _ _ (a .before .contradicts .ensures) (a .if1 .left) (b .before .table-empty .ensures) (b .if2 .left)
     (d .before .too-large .ensures) (d .if3 .left) _ (o .before .before .first-outside .ensures) (o .enum-told .given .1)
     (c .before .keeps-rules .ensures) (c .if4 .left)
 

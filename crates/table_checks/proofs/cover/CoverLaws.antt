@@ -13,7 +13,7 @@ use lib.ListN.{length, getD, take, drop, replicate, length-replicate, getD-repli
 use lib.Seq.{take-suc, split-at, take-all}
 use borrow.Author.Tests.{le-leb, lt-ltb, le-ltb, not-true, not-false}
 use Rattle.seq.specs.Lists.{select, neighbours}
-use Rattle.seq.proofs.Tests.{true-not-false, and-intro, bool-same, refused, le-or-lt, bit, bit-true, bit-false}
+use Rattle.seq.proofs.Tests.{true-not-false, and-intro, bool-same, bool-refused, le-or-lt, bit, bit-true, bit-false}
 use Rattle.seq.proofs.Searches.{count-cons, count-none}
 use Rattle.seq.proofs.Sorted.{sorted-behind}
 use Rattle.seq.proofs.Gathered.{count-append}
@@ -191,4 +191,4 @@ module _ (columns n : ℕ) (sections cells : List ℕ) (laid : Laid columns n se
 
     pub not-level : (a : Bool) → a ≡ allAt bottoms left right row → not a ≡ true → false ≡ coverOnce (gridIn columns n sections cells)
     not-level a told e =
-        sym (refused (coverOnce (gridIn columns n sections cells)) (λ cover. true-not-false (sym (cover-level cover) ∙ sym told ∙ not-true a e)))
+        sym (bool-refused (coverOnce (gridIn columns n sections cells)) (λ cover. true-not-false (sym (cover-level cover) ∙ sym told ∙ not-true a e)))

@@ -51,5 +51,5 @@ module _ (columns n : ℕ) (sections cells : List ℕ) (placed : CellsPlaced col
           pub not-run : not s ≡ true → false ≡ keepsRules (gridIn columns n sections cells)
           not-run e = rw (apart, not-false (c && d) covered, ← s-told, not-true s e)
 
-          pub crossing : not s ≡ false → (x : Bool) → x ≡ noneCrosses (gridIn columns n sections cells) → x ≡ keepsRules (gridIn columns n sections cells)
-          crossing e x told = rw (apart, not-false (c && d) covered, ← s-told, not-false s e) told
+          pub keepsRules-crossing : not s ≡ false → (x : Bool) → x ≡ noneCrosses (gridIn columns n sections cells) → x ≡ keepsRules (gridIn columns n sections cells)
+          keepsRules-crossing e x told = rw (apart, not-false (c && d) covered, ← s-told, not-false s e) told

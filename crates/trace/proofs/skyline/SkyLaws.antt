@@ -17,7 +17,7 @@ use Rattle.seq.proofs.Prefixes.{smallest-next}
 use Rattle.seq.proofs.Tests.{le-or-lt}
 use Rattle.grid.specs.Trace.{lowest, leftmost, standsLevel, raise}
 use Rattle.grid.proofs.RectangleLaws.{rect}
-use Rattle.grid.proofs.SkylineLaws.{Corner, corner}
+use Rattle.grid.proofs.SkylineLaws.{Corner, leftmost-corner}
 use Rattle.trace.specs.Skylines.{Sky, skyOf, FirstFrom}
 use Rattle.trace.specs.declared.skyline.Skyline.{Skyline}
 
@@ -85,7 +85,7 @@ module _ (s : List ℕ) (x level : ℕ) (e : level ≡ lowest (take x s)) where
   pub lowest-whole : (used : ℕ) → x ≤ used → used ≤ x → level ≡ lowest (take used s)
   lowest-whole used low high = let same : x ≡ used = omega arith in rw same at e
 
--- ---- the next corner
+-- ---- the next leftmost-corner
 
 module _ (s : Skyline) (sky : Sky s) (from level x : ℕ) (low : from ≤ x)
     (before : (y : ℕ) → from ≤ y → y < x → getD (skyOf s) y 0 ≡ level → ⊥) where
@@ -105,7 +105,7 @@ module _ (s : Skyline) (from level left : ℕ) (sky : Sky s) where
       → FirstFrom (skyOf s) from level left → left < s .used → (level ≡ lowest (skyOf s)) × (left ≡ leftmost (skyOf s)) × (left < s .used)
   corner-at-level none-below before first h = (top, ⊎-elim (λ (k : left ≤ leftmost (skyOf s)). omega (arith, later k)) (λ k. absurd (earlier k)) (le-or-lt left (leftmost (skyOf s))), h) where
     there : Corner (skyOf s)
-    there = corner (skyOf s) (omega (arith, sky-length sky))
+    there = leftmost-corner (skyOf s) (omega (arith, sky-length sky))
 
     here : getD (skyOf s) left 0 ≡ level
     here = first .found (omega (arith, sky-length sky))
@@ -133,7 +133,7 @@ module _ (s : Skyline) (from level left : ℕ) (sky : Sky s) where
 pub corner-lowest : (s : Skyline) (top left : ℕ) → Sky s → top ≡ lowest (skyOf s) → FirstFrom (skyOf s) 0 top left
     → (top ≡ lowest (skyOf s)) × (left ≡ leftmost (skyOf s)) × (left < s .used)
 corner-lowest s top left sky e first =
-    let there = corner (skyOf s) (omega (arith, sky-length sky)) in
+    let there = leftmost-corner (skyOf s) (omega (arith, sky-length sky)) in
     let inside : left < s .used =
     ⊎-elim (λ (h : s .used ≤ left). absurd (first .before (leftmost (skyOf s)) (omega arith) (omega (arith, there .inside, sky-length sky)) (there .low ∙ sym e)))
     (λ (h : left < s .used). h) (le-or-lt (s .used) left) in

@@ -1,6 +1,6 @@
 -- `fragments::part::cut_part` meets its contract: from its calls.
 use borrow.Author.Needs.{needs}
-use Rattle.fragments.proofs.part.PartLaws.{pieced}
+use Rattle.fragments.proofs.part.PartLaws.{cut-pieced}
 use Rattle.fragments.proofs.part.cut_part.Statement.{statement}
 use Rattle.fragments.proofs.part.cut_part.Tie as tie
 
@@ -29,7 +29,7 @@ add-t16-2 : tie.Need-add-t16-2
 add-t16-2 c = search needs
 
 returns : tie.Need-returns
-returns c = search pieced
+returns c = search cut-pieced
 
 pub cut-part-spec : {M : Type 1} → statement M
 cut-part-spec =

@@ -1,7 +1,7 @@
 -- `html_page::cells::render_alignment` meets its contract.
 use borrow.Author.Needs.{needs}
 use Rattle.seq.specs.Ascii.{ascii}
-use Rattle.html_page.proofs.cells.CellLaws.{left-written, right-written, center-written, unaligned}
+use Rattle.html_page.proofs.cells.CellLaws.{left-written, right-written, center-written, alignAttribute-none}
 use Rattle.html_page.proofs.cells.render_alignment.Statement.{statement}
 use Rattle.html_page.proofs.cells.render_alignment.Tie as tie
 
@@ -45,7 +45,7 @@ unfolding ascii
 returns-3 c = (search center-written, search needs)
 
 returns-4 : tie.Need-returns-4
-returns-4 c = (search unaligned, search needs)
+returns-4 c = (search alignAttribute-none, search needs)
 
 pub render-alignment-spec : {M : Type 1} → statement M
 render-alignment-spec =

@@ -1,5 +1,5 @@
 -- `table_checks::rules::keeps_rules` meets its contract: each return by its law.
-use Rattle.table_checks.proofs.rules.RuleLaws.{not-ordered, placesOf-ordered, not-inside, gridIn-laid, not-covered, not-run, sections-rise, crossing}
+use Rattle.table_checks.proofs.rules.RuleLaws.{not-ordered, placesOf-ordered, not-inside, gridIn-laid, not-covered, not-run, sections-rise, keepsRules-crossing}
 use borrow.Author.Needs.{needs}
 use Rattle.table_checks.proofs.rules.keeps_rules.Statement.{statement}
 use Rattle.table_checks.proofs.rules.keeps_rules.Tie as tie
@@ -40,7 +40,7 @@ none-crosses-requires c κs =
     (gridIn-laid _ _ _ _ _ (inside c .before .all-inside .ensures) (inside c .if2 .left) (search needs), sections-rise _ _ (c .before .sections-run .ensures) (c .if4 .left))
 
 returns-5 : tie.Need-returns-5
-returns-5 c = search crossing
+returns-5 c = search keepsRules-crossing
 
 pub keeps-rules-spec : {M : Type 1} → statement M
 keeps-rules-spec =

@@ -86,7 +86,8 @@ fn write_cell(
         ⌜ ((v : Canvas) × Boxed v n b × Inner n (now rects) y k × (origin .0 ≤ 255) × (at .0 ≤ 2147483648)) ⌝ }
     ensures { λ r.
         let b = board (now (rects .entry)) (now (text .entry)) (now (starts .entry)) (now (ends .entry)) (now (firsts .entry)) (now (heights .entry)) in
-        ⌜ ((v : Canvas) → Boxed v n b → Wrote (now (out .entry)) (at .0) (innerLine (origin .0) (getD (v .boxes) k noBox) y) (now (out .exit)) (r .0)) ⌝ }
+        ⌜ ((v : Canvas) → Boxed v n b
+        → Wrote (now (out .entry)) (at .0) (innerLine (origin .0) (getD (v .boxes) k noBox) y) (now (out .exit)) (r .0)) ⌝ }
     ensures { λ r. ⌜ r .0 ≤ at .0 + 641 ⌝ }
 {
     let i = y - 1 - edge(rects, 4 * k);

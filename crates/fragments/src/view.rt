@@ -25,25 +25,6 @@ pub struct CutPlace {
     pub column: Column,
 }
 
-// cell_text, where `fragment_of` calls it.
-fn cut_text<'a>(
-    text: &'a [u8],
-    column: Column,
-    line: usize,
-    table_byte: ByteAt,
-    start: ByteAt,
-    end: ByteAt,
-    left: Column,
-) -> &'a [u8]
-    ensures { λ r.
-        let given = lineOf (now (text .entry)) column in
-        ⌜ (r .ptr .0 ≡ text .entry .ptr .0)
-        × (r .ptr .1 ≡ text .entry .ptr .1 + cutStart given line («table_byte» .0) (range start end) (left .0))
-        × (now r ≡ cutText given line («table_byte» .0) (range start end) (left .0)) ⌝ }
-{
-    cell_text(text, column, line, table_byte, start, end, left)
-}
-
 // Where the cut text stands; 0 and 0 where the cut is refused.
 fn cut_place(
     text: &[u8],
@@ -94,7 +75,7 @@ pub fn fragment_of<'a>(
         × (r .line ≡ line) × (r .byte ≡ place .byte) × (r .column ≡ place .column) ⌝ }
 {
     let place = cut_place(text, column, line, table_byte, start, end, left);
-    let cut = cut_text(text, column, line, table_byte, start, end, left);
+    let cut = cell_text(text, column, line, table_byte, start, end, left);
     Fragment {
         text: cut,
         line,

@@ -1,5 +1,5 @@
--- `fragments::view::fragment_of` meets its contract: a walk of its MIR, by hand. All that it knows of `cut_place` and `cut_text` is that each meets its contract.
--- A `&[u8]` is Copy: what the text owns is had anew for each call and for the exit. The part that `cut_text` returns goes into the struct, beside the numbers of the place.
+-- `fragments::view::fragment_of` meets its contract: a walk of its MIR, by hand. All that it knows of `cut_place` and `cell_text` is that each meets its contract.
+-- A `&[u8]` is Copy: what the text owns is had anew for each call and for the exit. The part that `cell_text` returns goes into the struct, beside the numbers of the place.
 use mathlib.Core.Path.{_≡_, refl, ap}
 use Prim.Native.Nat.{ℕ, _+_, _<_, _^_}
 use mathlib.Core.List.{List, [], _∷_}
@@ -56,10 +56,10 @@ use Rattle.fragments.proofs.view.cut_place as cut-place
 use Rattle.fragments.proofs.view.cut_place.Symbol as place-def
 use Rattle.fragments.proofs.view.cut_place.Symbol.{name as #cut-place}
 use Rattle.fragments.proofs.view.cut_place.Met as place-thm
-use Rattle.fragments.proofs.view.cut_text as cut-text
-use Rattle.fragments.proofs.view.cut_text.Symbol as text-def
-use Rattle.fragments.proofs.view.cut_text.Symbol.{name as #cut-text}
-use Rattle.fragments.proofs.view.cut_text.Met as text-thm
+use Rattle.fragments.proofs.cell_text as cell-text
+use Rattle.fragments.proofs.cell_text.Symbol as text-def
+use Rattle.fragments.proofs.cell_text.Symbol.{name as #cell-text}
+use Rattle.fragments.proofs.cell_text.Met as text-thm
 use Rattle.fragments.proofs.view.fragment_of.Key.{name as #fragment-of}
 use Rattle.fragments.proofs.view.fragment_of as fragment-of
 use Rattle.fragments.proofs.view.fragment_of.Statement as stated
@@ -89,7 +89,7 @@ module _ {M : Type 1} (𝓤 : URA M) (H : Heap 𝓤) (A : Atoms 𝓤) (mem : Mem
   Placing = tripleOf 𝓤 H A cut-place.signature (cut-place.spec 𝓤 H A mem run)
 
   abbrev Cutting : Contract 𝓤
-  Cutting = tripleOf 𝓤 H A cut-text.signature (cut-text.spec 𝓤 H A mem run)
+  Cutting = tripleOf 𝓤 H A cell-text.signature (cell-text.spec 𝓤 H A mem run)
 
 -- the numbers are the column, the line, the table byte, the range's start and end, and the left column
 module _ {M : Type 1} (𝓤 : URA M) (H : Heap 𝓤) (A : Atoms 𝓤) (W : Given 𝓤 H A) (mem : Memory → SProp 𝓤) (run : Routine → Fun 𝓤) (κ : Lft) (q : Share) (s : RefT (List ℕ)) (c : Column) (l : ℕ) (t a b : ByteAt) (f : Column)
@@ -178,8 +178,8 @@ module _ {M : Type 1} (𝓤 : URA M) (H : Heap 𝓤) (A : Atoms 𝓤) (W : Given
       move ! (2 ∷ 0 ∷ []) $
       use2 W (raw (Cutting 𝓤 H A mem run .pre to-text)) (qed W ((‵ (flft κ q) ⊛ ‵ ftrue) ∷ ‵ Given-all ∷ []) ∵ join ! $ frame ! $ done !) $ frame ! $ done !
 
-  text-said : (r : RefT (List ℕ)) → ent 𝓤 (ensured 𝓤 H A cut-text.ended (cut-text.clauses 𝓤 H A mem run) (κ, tt) args tt r) (fact 𝓤 (IsCut r))
-  text-said r = exE 𝓤 _ (λ ws. snd∗ 𝓤 (sem 𝓤 H A (lasts cut-text.ended (κ, tt) args ws)) (fact 𝓤 (IsCut r)))
+  text-said : (r : RefT (List ℕ)) → ent 𝓤 (ensured 𝓤 H A cell-text.ended (cell-text.clauses 𝓤 H A mem run) (κ, tt) args tt r) (fact 𝓤 (IsCut r))
+  text-said r = exE 𝓤 _ (λ ws. snd∗ 𝓤 (sem 𝓤 H A (lasts cell-text.ended (κ, tt) args ws)) (fact 𝓤 (IsCut r)))
 
   exits : (p : CutPlace) (r : RefT (List ℕ)) → p ≡ place → IsCut r
       → ent 𝓤 (⋆ 𝓤 H A (‵ (Own r) ∷ (‵ (flft κ q) ⊛ ‵ ftrue) ∷ ‵ (Own s) ∷ ‵ (Placed p) ∷ [])) (Post (T′.lowered (made p r)))
@@ -193,7 +193,7 @@ module _ {M : Type 1} (𝓤 : URA M) (H : Heap 𝓤) (A : Atoms 𝓤) (W : Given
       move ! (1 ∷ []) $ owned ! usize (Is usize) (uint-makes 𝓤 H A W w64) l _ (refl, okl) $ fjoin ! $ move ! (1 ∷ 0 ∷ []) $ fjoin ! $
       by ! (own-shut 𝓤 H A W (T.the-type α) (T′.the-laws α) (r, (l, (p .byte, (p .column, tt)))))
 
-  module _ (C : Calls 𝓤 H) (Λ : Loops 𝓤 H) (fm : FmC 𝓤 H (W .laws) C) (known-place : Triple 𝓤 (C #cut-place) (Placing 𝓤 H A mem run)) (known-text : Triple 𝓤 (C #cut-text) (Cutting 𝓤 H A mem run)) where
+  module _ (C : Calls 𝓤 H) (Λ : Loops 𝓤 H) (fm : FmC 𝓤 H (W .laws) C) (known-place : Triple 𝓤 (C #cut-place) (Placing 𝓤 H A mem run)) (known-text : Triple 𝓤 (C #cell-text) (Cutting 𝓤 H A mem run)) where
     walk : Is (ShrSlice (named 0) κ u8) s (val s ∷ [])
         → ent 𝓤 (onEntry 𝓤 H A fragment-of.signature (κ, tt) (q, tt) args at)
         (WpFn 𝓤 H C Λ code.function (val s ∷ K′.lowered c ∷ vint w64 l ∷ B′.lowered t ∷ B′.lowered a ∷ B′.lowered b ∷ K′.lowered f ∷ []) Post)
@@ -218,7 +218,7 @@ module _ {M : Type 1} (𝓤 : URA M) (H : Heap 𝓤) (A : Atoms 𝓤) (W : Given
         land ! (from ! (stop !)) (init ! 5 refl (LL.lawful P.the-type P′.the-laws 𝓤 H A W .typed p _ is-place .0)) $
         move ! (1 ∷ 2 ∷ []) $ use2 W (raw (Cutting 𝓤 H A mem run .pre to-text) ⊛ ‵ (Own s)) goes-text $ split ! $
         calls-at ! fm (Cutting 𝓤 H A mem run) known-text to-text (and-then ! (load ! (from ! (stop !)) (look ! 19 refl)) (and-then ! (load ! (from ! (stop !)) (look ! 17 refl)) (and-then ! (load ! (from ! (stop !)) (look ! 15 refl)) (and-then ! (load ! (from ! (stop !)) (look ! 13 refl)) (and-then ! (load ! (from ! (stop !)) (look ! 11 refl)) (and-then ! (load ! (from ! (stop !)) (look ! 9 refl)) (and-then ! (load ! (from ! (stop !)) (look ! 7 refl)) (no-more !)))))))) (λ w.
-        use1 W (later (some (λ (r : RefT (List ℕ)). ((‵ (flft κ q) ⊛ ‵ ftrue) ⊛ ‵ (ShrSlice (named 0) κ u8 .own r (w ∷ []))) ⊛ raw (ensured 𝓤 H A cut-text.ended (cut-text.clauses 𝓤 H A mem run) (κ, tt) args tt r)))) (id⊢ 𝓤 _) $ await ! tt $ pick ! (λ r.
+        use1 W (later (some (λ (r : RefT (List ℕ)). ((‵ (flft κ q) ⊛ ‵ ftrue) ⊛ ‵ (ShrSlice (named 0) κ u8 .own r (w ∷ []))) ⊛ raw (ensured 𝓤 H A cell-text.ended (cell-text.clauses 𝓤 H A mem run) (κ, tt) args tt r)))) (id⊢ 𝓤 _) $ await ! tt $ pick ! (λ r.
         split ! $ move ! (1 ∷ []) $ use1 W (raw (fact 𝓤 (IsCut r))) (text-said r) $ heard ! (IsCut r) (λ e′. split ! $ move ! (1 ∷ []) $
         -- [what the part owns; the token; what s owns; what the place's numbers own; room for _9; …; _8; …]
         peeks ! (ShrSlice (named 0) κ u8) (Is (ShrSlice (named 0) κ u8)) (shows 𝓤 H A (ShrSlice (named 0) κ u8)) r (w ∷ []) (λ is-part.
@@ -232,7 +232,7 @@ module _ {M : Type 1} (𝓤 : URA M) (H : Heap 𝓤) (A : Atoms 𝓤) (W : Given
         by ! (exits p r e e′)))))))))))))))))))))
 
 module _ {M : Type 1} (𝓤 : URA M) (H : Heap 𝓤) (A : Atoms 𝓤) (W : Given 𝓤 H A) (mem : Memory → SProp 𝓤) (run : Routine → Fun 𝓤) where
-  fragment-of-walks : (C : Calls 𝓤 H) (Λ : Loops 𝓤 H) → FmC 𝓤 H (W .laws) C → Triple 𝓤 (C #cut-place) (Placing 𝓤 H A mem run) → Triple 𝓤 (C #cut-text) (Cutting 𝓤 H A mem run)
+  fragment-of-walks : (C : Calls 𝓤 H) (Λ : Loops 𝓤 H) → FmC 𝓤 H (W .laws) C → Triple 𝓤 (C #cut-place) (Placing 𝓤 H A mem run) → Triple 𝓤 (C #cell-text) (Cutting 𝓤 H A mem run)
       → Walks 𝓤 H A fragment-of.ended stayed (WpFn 𝓤 H C Λ code.function) (fragment-of.clauses 𝓤 H A mem run)
   fragment-of-walks C Λ fm known-place known-text =
       walked 𝓤 H A fragment-of.ended stayed (fragment-of.clauses 𝓤 H A mem run) (WpFn 𝓤 H C Λ code.function)
@@ -244,7 +244,7 @@ module _ {M : Type 1} (𝓤 : URA M) (H : Heap 𝓤) (A : Atoms 𝓤) (W : Given
       C Λ fm known-place known-text (are .0)))
 
 fragment-of-meets : {M : Type 1} (𝓤 : URA M) (H : Heap 𝓤) (A : Atoms 𝓤) (W : Given 𝓤 H A) (mem : Memory → SProp 𝓤) (run : Routine → Fun 𝓤) (𝓣 : Tables 𝓤 H)
-    → Triple 𝓤 (𝓣 .C #cut-place) (Placing 𝓤 H A mem run) → Triple 𝓤 (𝓣 .C #cut-text) (Cutting 𝓤 H A mem run)
+    → Triple 𝓤 (𝓣 .C #cut-place) (Placing 𝓤 H A mem run) → Triple 𝓤 (𝓣 .C #cell-text) (Cutting 𝓤 H A mem run)
     → Meets 𝓤 H A fragment-of.signature (WpFn 𝓤 H (𝓣 .C) (𝓣 .Λ) code.function) (fragment-of.spec 𝓤 H A mem run)
 fragment-of-meets 𝓤 H A W mem run 𝓣 known-place known-text =
     walk-meets 𝓤 H A fragment-of.ended stayed W (
@@ -273,4 +273,4 @@ fragment-of-spec 𝓤 H 𝓜 𝓖 𝓡 =
     (tables 𝓤 H 𝓜 𝓡 code.env .C) (tables 𝓤 H 𝓜 𝓡 code.env .Λ) #fragment-of code.function (code.unfolded 𝓤 H 𝓜 𝓡)
     (fragment-of-meets 𝓤 H (𝓖 .A) (givenOf 𝓤 H 𝓜 𝓖) (𝓜 .mem) (𝓡 .run) (tablesOf 𝓤 H 𝓜 (tables 𝓤 H 𝓜 𝓡 code.env))
     (cited 𝓤 H (Placing 𝓤 H (𝓖 .A) (𝓜 .mem) (𝓡 .run)) 𝓜 𝓡 code.env #cut-place place-def.routine code.calls-fragments·view·cut-place (place-thm.met 𝓤 H 𝓜 𝓖 𝓡))
-    (cited 𝓤 H (Cutting 𝓤 H (𝓖 .A) (𝓜 .mem) (𝓡 .run)) 𝓜 𝓡 code.env #cut-text text-def.routine code.calls-fragments·view·cut-text (text-thm.met 𝓤 H 𝓜 𝓖 𝓡)))
+    (cited 𝓤 H (Cutting 𝓤 H (𝓖 .A) (𝓜 .mem) (𝓡 .run)) 𝓜 𝓡 code.env #cell-text text-def.routine code.calls-fragments·cell-text (text-thm.met 𝓤 H 𝓜 𝓖 𝓡)))

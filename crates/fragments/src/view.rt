@@ -1,6 +1,6 @@
 // A cut line as a view of the caller's text (fragments.rs: Fragment). A function that holds one is
-// proved by hand, so there are two and no more, over functions on plain numbers: what a caller does
-// with a fragment it does with its text and its numbers.
+// proved by hand, so there are two and no more, over functions without one: what a caller does with
+// a fragment it does with its text and its numbers.
 use crate::Cut;
 use crate::cell_fragment;
 use crate::cell_text;
@@ -9,83 +9,49 @@ use text::Column;
 ghost use Prim.Native.Nat.{_+_};
 ghost use mathlib.Core.Path.{_≡_};
 ghost use Rattle.grid.specs.CutCall.{cutText, cutStart};
-ghost use Rattle.fragments.specs.View.{lineGiven, rangeGiven, cutPlace};
+ghost use Rattle.fragments.specs.Part.{lineOf, range};
+ghost use Rattle.fragments.specs.View.{cutPlace};
 
 pub struct Fragment<'a> {
     pub text: &'a [u8],
     pub line: usize,
-    pub byte: usize,
-    pub column: usize,
+    pub byte: ByteAt,
+    pub column: Column,
 }
 
 // The byte and the column of a cut text.
 pub struct CutPlace {
-    pub byte: usize,
-    pub column: usize,
+    pub byte: ByteAt,
+    pub column: Column,
 }
 
-// cell_text, of plain numbers.
-fn cut_text<'a>(
-    text: &'a [u8],
-    column: usize,
-    line: usize,
-    table_byte: usize,
-    start: usize,
-    end: usize,
-    left: usize,
-) -> &'a [u8]
-    ensures { λ r.
-        let given = lineGiven (now (text .entry)) column in
-        ⌜ (r .ptr .0 ≡ text .entry .ptr .0)
-        × (r .ptr .1 ≡ text .entry .ptr .1 + cutStart given line «table_byte» (rangeGiven start end) left)
-        × (now r ≡ cutText given line «table_byte» (rangeGiven start end) left) ⌝ }
-{
-    cell_text(
-        text,
-        Column(column),
-        line,
-        ByteAt(table_byte),
-        ByteAt(start),
-        ByteAt(end),
-        Column(left),
-    )
-}
-
-// Where the cut text stands, of plain numbers; 0 and 0 where the cut is refused.
+// Where the cut text stands; 0 and 0 where the cut is refused.
 fn cut_place(
     text: &[u8],
-    column: usize,
+    column: Column,
     line: usize,
-    table_byte: usize,
-    start: usize,
-    end: usize,
-    left: usize,
+    table_byte: ByteAt,
+    start: ByteAt,
+    end: ByteAt,
+    left: Column,
 ) -> CutPlace
-    ensures { λ r. ⌜ r ≡ cutPlace (lineGiven (now (text .entry)) column) line «table_byte» (rangeGiven start end) left ⌝ }
+    ensures { λ r. ⌜ r ≡ cutPlace (lineOf (now (text .entry)) column) line («table_byte» .0) (range start end) (left .0) ⌝ }
 {
-    match cell_fragment(
-        text,
-        Column(column),
-        line,
-        ByteAt(table_byte),
-        ByteAt(start),
-        ByteAt(end),
-        Column(left),
-    ) {
+    match cell_fragment(text, column, line, table_byte, start, end, left) {
         Cut::Accepted {
             start: _,
             end: _,
             line: _,
             byte,
             column: at,
-        } => CutPlace {
-            byte: byte.0,
-            column: at.0,
-        },
+        } => CutPlace { byte, column: at },
         Cut::Refused {
             number: _,
             place: _,
-        } => CutPlace { byte: 0, column: 0 },
+        } => CutPlace {
+            byte: ByteAt(0),
+            column: Column(0),
+        },
     }
 }
 
@@ -93,23 +59,23 @@ fn cut_place(
 // line's start, with byte and column 0.
 pub fn fragment_of<'a>(
     text: &'a [u8],
-    column: usize,
+    column: Column,
     line: usize,
-    table_byte: usize,
-    start: usize,
-    end: usize,
-    left: usize,
+    table_byte: ByteAt,
+    start: ByteAt,
+    end: ByteAt,
+    left: Column,
 ) -> Fragment<'a>
     ensures { λ r.
-        let given = lineGiven (now (text .entry)) column in
-        let place = cutPlace given line «table_byte» (rangeGiven start end) left in
+        let given = lineOf (now (text .entry)) column in
+        let place = cutPlace given line («table_byte» .0) (range start end) (left .0) in
         ⌜ (r .text .ptr .0 ≡ text .entry .ptr .0)
-        × (r .text .ptr .1 ≡ text .entry .ptr .1 + cutStart given line «table_byte» (rangeGiven start end) left)
-        × (now (r .text) ≡ cutText given line «table_byte» (rangeGiven start end) left)
+        × (r .text .ptr .1 ≡ text .entry .ptr .1 + cutStart given line («table_byte» .0) (range start end) (left .0))
+        × (now (r .text) ≡ cutText given line («table_byte» .0) (range start end) (left .0))
         × (r .line ≡ line) × (r .byte ≡ place .byte) × (r .column ≡ place .column) ⌝ }
 {
     let place = cut_place(text, column, line, table_byte, start, end, left);
-    let cut = cut_text(text, column, line, table_byte, start, end, left);
+    let cut = cell_text(text, column, line, table_byte, start, end, left);
     Fragment {
         text: cut,
         line,

@@ -94,13 +94,16 @@ module _ (rects : List ℕ) (n k : ℕ) (all : AllInside rects n) (h : k < n) wh
   pub left-small : getD rects (4 * k + 1) 0 < 128
   left-small = omega (arith, within .across, within .wide)
 
+  pub left-fits : Fits w16 (getD rects (4 * k + 1) 0)
+  left-fits = record { fits = omega (arith, left-small) }
+
   pub bottom-small : getD rects (4 * k + 2) 0 < 128
   bottom-small = within .tall
 
   pub right-small : getD rects (4 * k + 3) 0 < 128
   right-small = within .wide
 
-pub index-grows : (lines : List ℕ) (x y : ℕ) → x ≤ y → indexOf lines x ≤ indexOf lines y
+index-grows : (lines : List ℕ) (x y : ℕ) → x ≤ y → indexOf lines x ≤ indexOf lines y
 unfolding indexOf select
 index-grows [] x y h = omega arith
 index-grows (a ∷ lines) x y h = go (ltb a x) refl (ltb a y) refl (index-grows lines x y h) where

@@ -2,13 +2,14 @@
 use Prim.Native.Nat.{ℕ, _+_, _-_, _^_, _≤_, _<_}
 use mathlib.Core.Path.{_≡_, refl, sym, ap, _∙_}
 use mathlib.Core.Bool.{Bool, true, false, not, _&&_, _||_}
+use mathlib.Core.Logic.{⊎-elim}
 use mathlib.Core.List.{List}
 use native.Mathlib.Omega.{arith}
-use lib.Dec.{leb}
+use lib.Dec.{leb, eqb}
 use lib.ListN.{length, drop, getD}
-use borrow.Author.Tests.{not-true, not-false}
+use borrow.Author.Tests.{eqb-true, not-true, not-false}
 use Rattle.seq.specs.Lists.{within}
-use Rattle.seq.proofs.Tests.{true-not-false, both-true}
+use Rattle.seq.proofs.Tests.{true-not-false, both-true, or-cases}
 use Rattle.seq.proofs.ListsLaws.{within-in, within-below, within-above}
 use Rattle.text.specs.declared.Decoded.{Decoded}
 use Rattle.text.specs.declared.Decoded.the-variants.{Character, Refused}
@@ -68,17 +69,21 @@ module _ (s : List ℕ) (at a : ℕ) (here : a ≡ getD s at 0) where
           (sym (character-two s at a b true here then (omega arith) (sym (within-in 0xc0 0xdf a low high)) (Character (twoBytes a b) 2) refl
           (from-two-is a b t more true (Character (twoBytes a b) 2) goes-on in-set refl)))
 
-      pub two-narrow : (w : Bool) → w ≡ within 0xc3 0xc5 a → w ≡ true → Whole s at 2 true
+      two-narrow : (w : Bool) → w ≡ within 0xc3 0xc5 a → w ≡ true → Whole s at 2 true
       two-narrow w is taken =
           let (low, high) = between 0xc3 0xc5 a (sym is ∙ taken) in
           of-two (within 0x300 0x36f (twoBytes a b)) (within 0xa1 0xac (twoBytes a b)) true (omega arith) (omega arith) refl refl
           (sym (within-in 0xae 0x17f (twoBytes a b) (omega (arith, second, low, high)) (omega (arith, second, low, high))))
           (or-last (within 0x300 0x36f (twoBytes a b)) (within 0xa1 0xac (twoBytes a b)))
 
-      pub two-mark : a ≡ 0xcc → Whole s at 2 true
+      two-mark : a ≡ 0xcc → Whole s at 2 true
       two-mark e =
           of-two true (within 0xa1 0xac (twoBytes a b)) (within 0xae 0x17f (twoBytes a b)) (omega arith) (omega arith)
           (sym (within-in 0x300 0x36f (twoBytes a b) (omega (arith, second, e)) (omega (arith, second, e)))) refl refl refl
+
+      pub two-common : (w : Bool) → w ≡ within 0xc3 0xc5 a → w || eqb a 0xcc ≡ true → Whole s at 2 true
+      two-common w is some =
+          ⊎-elim (λ (narrow : w ≡ true). two-narrow w is narrow) (λ (mark : eqb a 0xcc ≡ true). two-mark (eqb-true a 0xcc mark)) (or-cases w (eqb a 0xcc) some)
 
     module _ (c : ℕ) (last : c ≡ getD s (at + 2) 0) where
       abbrev value : ℕ

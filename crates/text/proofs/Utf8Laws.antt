@@ -1,5 +1,5 @@
 -- Laws of specs/Utf8.antt.
-use Prim.Native.Nat.{ℕ, zero, suc, _+_, _-_, _≤_, _<_}
+use Prim.Native.Nat.{ℕ, zero, suc, _+_, _-_, _^_, _≤_, _<_}
 use mathlib.Core.Path.{_≡_, refl, sym, ap, _∙_}
 use mathlib.Core.Logic.{_⊎_, inl, inr, ⊎-elim}
 use mathlib.Core.Bool.{Bool, true, false, _&&_, cond}
@@ -259,6 +259,27 @@ module _ (s : List ℕ) (at : ℕ) where
   pub well-not : character (drop at s) ≡ Refused → at < length s → wellFrom 0 (drop at s) ≡ false
   unfolding wellFrom
   well-not e h = rw (drop-step s at h, rw (drop-step s at h) at e)
+
+-- what the code's loop over a line says
+module _ (s : List ℕ) (at : ℕ) (d : Decoded) (is : d ≡ character (drop at s)) where
+  module _ (v k : ℕ) (e : d ≡ Character v k) where
+    fits : (1 ≤ k) × (at + k ≤ length s)
+    fits = size-fits s at v k (sym is ∙ e)
+
+    pub well-on : wellFormed s ≡ wellFrom 0 (drop at s) → wellFormed s ≡ wellFrom 0 (drop (at + k) s)
+    well-on so-far = so-far ∙ well-next s at v k (sym is ∙ e)
+
+    pub end-inside : at + k ≤ length s
+    end-inside = fits .1
+
+    pub end-fits : length s < 2 ^ 64 → at + k < 2 ^ 64
+    end-fits short = omega (arith, fits)
+
+    pub fewer-left : length s - (at + k) < length s - at
+    fewer-left = omega (arith, fits)
+
+  pub ill-formed : d ≡ Refused → at < length s → wellFormed s ≡ wellFrom 0 (drop at s) → false ≡ wellFormed s
+  ill-formed e inside so-far = sym (so-far ∙ well-not s at (cc) inside)
 
 pub well-to-the-end : (s : List ℕ) (at : ℕ) → at ≤ length s → length s ≤ at → wellFormed s ≡ wellFrom 0 (drop at s) → true ≡ wellFormed s
 unfolding wellFrom

@@ -28,14 +28,17 @@ pub fn is_two(line: &[u8], at: ByteAt) -> bool
 {
     let at = at.0;
     let a = byte_or_zero(line, at) as u32;
-    let b = byte_or_zero(line, at + 1) as u32;
-    if within(0xc3, 0xc5, a) | (a == 0xcc) {
-        if is_continuation(b) {
-            return true;
-        }
-    }
     if a < 0xc0 {
         return false;
+    }
+    let b = byte_or_zero(line, at + 1) as u32;
+    if is_continuation(b) {
+        if within(0xc3, 0xc5, a) {
+            return true;
+        }
+        if a == 0xcc {
+            return true;
+        }
     }
     is_character(from_two(a, b))
 }
@@ -48,15 +51,15 @@ pub fn is_three(line: &[u8], at: ByteAt) -> bool
 {
     let at = at.0;
     let a = byte_or_zero(line, at) as u32;
+    if 0xf0 <= a {
+        return false;
+    }
     let b = byte_or_zero(line, at + 1) as u32;
     let c = byte_or_zero(line, at + 2) as u32;
     if within(0xe5, 0xe9, a) {
         if is_continuation(b) & is_continuation(c) {
             return true;
         }
-    }
-    if 0xf0 <= a {
-        return false;
     }
     is_character(from_three(a, b, c))
 }

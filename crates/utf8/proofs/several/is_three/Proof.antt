@@ -10,6 +10,9 @@ byte-or-zero-requires c κs = search needs
 cast-a : tie.Need-cast-a
 cast-a c = search needs
 
+returns : tie.Need-returns
+returns c = search (needs, three-none)
+
 add-byte-or-zero : tie.Need-add-byte-or-zero
 add-byte-or-zero c = search needs
 
@@ -37,11 +40,8 @@ is-continuation-requires c κs = search needs
 is-continuation-requires-2 : tie.Need-is-continuation-requires-2
 is-continuation-requires-2 c κs = search needs
 
-returns : tie.Need-returns
-returns c = search (needs, three-han)
-
 returns-2 : tie.Need-returns-2
-returns-2 c = search (needs, three-none)
+returns-2 c = search (needs, three-han)
 
 from-three-requires : tie.Need-from-three-requires
 from-three-requires c κs = search needs
@@ -58,6 +58,7 @@ is-three-spec =
     (tie.spec
     byte-or-zero-requires
     cast-a
+    returns
     add-byte-or-zero
     byte-or-zero-requires-2
     cast-b
@@ -67,7 +68,6 @@ is-three-spec =
     within-requires
     is-continuation-requires
     is-continuation-requires-2
-    returns
     returns-2
     from-three-requires
     is-character-requires

@@ -224,8 +224,8 @@ module _ (line : List ℕ) (first at : ℕ) (glyphs₀ offsets₀ glyphs offsets
           → ScanSoFar line first at glyphs₀ offsets₀ glyphs′ offsets′ (byte + 3) (n + 2)
       next-wide w low glyphs′ offsets′ put = scan-next (first-wide line byte (first + n) a here t stands w low) glyphs′ offsets′ room room′ put
 
-  pub count-fits : (a count : ℕ) → count ≡ span (first + n) a → length line ≤ 512 → n + count < 2 ^ 64
-  count-fits a count spans short = omega (arith, so-far .few, so-far .inLine, spans, span-four-columns-at-most (first + n) a)
+  pub count-fits : (column a count : ℕ) → count ≡ span column a → length line ≤ 512 → n + count < 2 ^ 64
+  count-fits column a count spans short = omega (arith, so-far .few, so-far .inLine, spans, span-four-columns-at-most column a)
 
   -- ---- no character of the set, and the line's end
   outside : character (drop byte line) ≡ Refused → byte < length line → LineScanned line first at glyphs₀ offsets₀ glyphs offsets Outside

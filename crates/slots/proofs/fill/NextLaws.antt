@@ -1,10 +1,9 @@
 -- Laws of one line more: its slots, and its separator noted.
 use Prim.Native.Nat.{ℕ, _+_, _*_, _≤_, _<_}
-use mathlib.Core.Path.{_≡_, refl, sym, ap, _∙_}
+use mathlib.Core.Path.{_≡_, refl, sym, _∙_}
 use mathlib.Core.Logic.{⊎-elim}
 use mathlib.Core.Bool.{Bool, true, false, _&&_, _||_, cond}
 use mathlib.Core.List.{List, [], _∷_, _++_, append-nil}
-use native.Mathlib.Omega.{arith}
 use native.Mathlib.Numerals.{add-one}
 use lib.Dec.{eqb, ltb}
 use lib.ListN.{length, take, set}
@@ -14,7 +13,6 @@ use Rattle.seq.proofs.Tests.{and-right, or-cases, or-neither}
 use Rattle.text.specs.Utf8.{plain}
 use Rattle.text.specs.Trim.{trimEnd}
 use Rattle.text.specs.Rule.{isRule}
-use Rattle.text.proofs.TrimLaws.{trim-shorter}
 use Rattle.text.proofs.TrimmedLaws.{plain-trim, rule-plain}
 use Rattle.grid.specs.Slots.{lineSlots}
 use Rattle.slots.specs.Line.{FilledLine}
@@ -32,9 +30,6 @@ module _ (array : List ℕ) (n v : ℕ) (t : Bool) where
 
 -- ---- a line as given, trimmed
 module _ (text line : List ℕ) (trimmed : line ≡ trimEnd text) where
-  pub trimmed-short : length text ≤ 512 → length line ≤ 512
-  trimmed-short h = omega (arith, ap length trimmed, trim-shorter text)
-
   module _ (y count : ℕ) (separator : Bool) (is : separator ≡ (ltb 0 y && isRule 0x3d line)) where
     -- a rule is plain, and so is a line that scanning found to be
     pub trimmed-plain : (count ≡ 255 → plain text ≡ true) → (y ≡ 0 → plain (trimEnd text) ≡ true) → (eqb y 0 || separator) || eqb count 255 ≡ true → plain line ≡ true

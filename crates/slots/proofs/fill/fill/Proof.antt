@@ -1,3 +1,4 @@
+-- `slots::fill::fill` meets its contract: the invariant: the lines before y hold their slots, those from y on are as scanning left them.
 use Prim.Native.Nat.{_-_, _≤_}
 use mathlib.Core.Path.{_≡_}
 use borrow.Author.Needs.{needs}

@@ -1,4 +1,6 @@
-use Rattle.slots.proofs.fill.NextLaws.{trimmed-short, trimmed-plain, next-filled}
+-- `slots::fill::fill_next` meets its contract: a rule is plain, and so is a line that scanning found to be.
+use Rattle.slots.proofs.fill.NextLaws.{trimmed-plain, next-filled}
+use Rattle.slots.proofs.scan.ScannedLaws.{trimmed-room}
 use borrow.Author.Needs.{needs}
 use Rattle.slots.proofs.fill.fill_next.Statement.{statement}
 use Rattle.slots.proofs.fill.fill_next.Tie as tie
@@ -13,7 +15,7 @@ mul-fill-line : tie.Need-mul-fill-line
 mul-fill-line c = search needs
 
 fill-line-requires : tie.Need-fill-line-requires
-fill-line-requires c κs = search (needs, trimmed-short, trimmed-plain)
+fill-line-requires c κs = search (needs, trimmed-room, trimmed-plain)
 
 noted-requires : tie.Need-noted-requires
 noted-requires c κs = search needs

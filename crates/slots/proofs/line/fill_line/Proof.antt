@@ -1,3 +1,4 @@
+-- `slots::line::fill_line` meets its contract: the bytes of a plain line, or what scanning left.
 use Rattle.slots.proofs.line.PlainLaws.{plain-known, plain-other-width, plain-filled, scanned-filled}
 use borrow.Author.Needs.{needs}
 use Rattle.slots.proofs.line.fill_line.Statement.{statement}

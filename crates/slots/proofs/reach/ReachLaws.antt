@@ -7,15 +7,15 @@ use mathlib.Core.Logic.{⊎-elim}
 use native.Mathlib.Omega.{arith}
 use native.Mathlib.Nat.{eq-or-lt-of-le}
 use lib.Dec.{eqb}
-use lib.ListN.{length, getD, set, length-set}
+use lib.ListN.{length, getD, set, replicate, length-set, length-replicate, getD-replicate}
 use lib.Seq.{getD-set-same, getD-set-other}
 use borrow.Author.Tests.{eqb-true}
-use Rattle.seq.proofs.Tests.{true-not-false, and-left, and-right, and-intro}
+use Rattle.seq.proofs.Tests.{true-not-false, and-left, and-right, and-intro, or-neither}
 use Rattle.grid.specs.Slots.{horizontal, vertical, Plus, Dash, Pipe, Other}
 use Rattle.representation.specs.Arrays.{codeAt, codeGlyph, Roomy}
 use Rattle.representation.specs.Reach.{ReachRight, ReachDown}
-use Rattle.slots.specs.Reaching.{RunsFrom, RightRuns, DownRuns, stepDown, LineRight, LineDown, LineRoom}
-use Rattle.slots.proofs.reach.RunLaws.{runs-none, runs-same, runs-on, runs-off}
+use Rattle.slots.specs.Reaching.{RunsFrom, RightRuns, DownRuns, joinsBelow, NoRun, LineRight, LineOf, Stepped, LineRoom}
+use Rattle.slots.proofs.reach.RunLaws.{runs-none, runs-self, runs-same, runs-on, runs-off}
 
 -- ---- glyphs as numbers
 pub horizontal-code : (code : ℕ) → eqb code 3 || eqb code 1 ≡ horizontal (codeGlyph code)
@@ -36,6 +36,54 @@ vertical-code code = go (eqb code 3) (eqb code 2) (eqb code 1) where
   go false false true = refl
   go false false false = refl
 
+-- ---- runs of a line: no two of the first x columns are one
+pub record RunSoFar (y : ℕ) (glyphs : List ℕ) (x : ℕ) (any : Bool) : Type 0 where
+  pub some : 1 ≤ x
+  pub none : any ≡ false → NoRun x y glyphs
+
+pub run-starts : (y : ℕ) (glyphs : List ℕ) → RunSoFar y glyphs 1 false
+run-starts y glyphs = record { some = omega arith; none = λ e k h. absurd (omega arith) }
+
+pub run-next : (y : ℕ) (glyphs : List ℕ) (x : ℕ) (any here next : Bool) → RunSoFar y glyphs x any
+    → here ≡ horizontal (codeGlyph (getD glyphs (y * 128 + x - 1) 0)) → next ≡ horizontal (codeGlyph (getD glyphs (y * 128 + x) 0))
+    → RunSoFar y glyphs (x + 1) (any || here && next)
+run-next y glyphs x any here next so-far is-here is-next =
+    record {
+      some = omega arith;
+      none = λ e k h.
+          ⊎-elim (λ (q : k + 1 ≡ x). pair k q (or-neither any (here && next) e .1)) (λ (past : k + 1 < x). so-far .none (or-neither any (here && next) e .0) k past)
+          (eq-or-lt-of-le (let q : k + 1 ≤ x = omega arith in q));
+    } where
+      pair : (k : ℕ) → k + 1 ≡ x → here && next ≡ false
+          → horizontal (codeGlyph (codeAt glyphs y k)) && horizontal (codeGlyph (codeAt glyphs y (k + 1))) ≡ false
+      pair k q e =
+          let before : y * 128 + x - 1 ≡ y * 128 + k = omega arith in
+          rw (q, ← before, ← is-here, ← is-next) e
+
+pub run-ends : (width y : ℕ) (glyphs : List ℕ) (x : ℕ) (any : Bool) → RunSoFar y glyphs x any → width ≤ x → any ≡ false → NoRun width y glyphs
+run-ends width y glyphs x any so-far h e k low = so-far .none e k (omega arith)
+
+-- ---- a line of an array, slot by slot
+pub line-of-starts : (y : ℕ) (value : ℕ → ℕ) (array : List ℕ) → LineOf 0 y value array array
+line-of-starts y value array = record { kept = refl; above = λ i h. refl; below = λ i h. refl; slots = λ x h. absurd (omega arith) }
+
+pub line-of-next : (width y x v : ℕ) (value : ℕ → ℕ) (array₀ array : List ℕ) → LineOf x y value array₀ array → x < width → width ≤ 128 → y * 128 + 128 ≤ length array₀
+    → v ≡ value x → LineOf (x + 1) y value array₀ (set array (y * 128 + x) v)
+line-of-next width y x v value array₀ array so-far h narrow room is =
+    record {
+      kept = simp length-set (so-far .kept);
+      above = λ i low. getD-set-other array (y * 128 + x) i v 0 (λ e. omega arith) ∙ so-far .above i low;
+      below = λ i high. getD-set-other array (y * 128 + x) i v 0 (λ e. omega arith) ∙ so-far .below i high;
+      slots = λ k low.
+          ⊎-elim (λ (e : k ≡ x). rw e (getD-set-same array (y * 128 + x) v 0 (omega (arith, so-far .kept)) ∙ is))
+          (λ (before : k < x). getD-set-other array (y * 128 + x) (y * 128 + k) v 0 (λ e. omega arith) ∙ so-far .slots k before)
+          (eq-or-lt-of-le (let q : k ≤ x = omega arith in q));
+    }
+
+pub line-of-ends : (width y x : ℕ) (value : ℕ → ℕ) (array₀ array : List ℕ) → LineOf x y value array₀ array → width ≤ x → LineOf width y value array₀ array
+line-of-ends width y x value array₀ array so-far h =
+    record { kept = so-far .kept; above = so-far .above; below = so-far .below; slots = λ k low. so-far .slots k (omega arith) }
+
 -- ---- to the right: columns from x on are written
 pub record RightSoFar (width y : ℕ) (glyphs right₀ right : List ℕ) (x last : ℕ) (goes-on : Bool) : Type 0 where
   pub inside : x ≤ width
@@ -43,7 +91,6 @@ pub record RightSoFar (width y : ℕ) (glyphs right₀ right : List ℕ) (x last
   pub above : (i : ℕ) → i < y * 128 → getD right i 0 ≡ getD right₀ i 0
   pub runs : RightRuns width y x glyphs right
   pub lastIs : x < width → last ≡ codeAt right y x
-  pub lastFits : last ≤ width
   pub goesOn : x < width → goes-on ≡ horizontal (codeGlyph (codeAt glyphs y x))
   pub ends : x ≡ width → goes-on ≡ false
 
@@ -56,7 +103,6 @@ right-starts width y glyphs right =
       above = λ i h. refl;
       runs = runs-none width (λ k. horizontal (codeGlyph (codeAt glyphs y k))) (λ k. codeAt right y k);
       lastIs = λ h. absurd (omega arith);
-      lastFits = omega arith;
       goesOn = λ h. absurd (omega arith);
       ends = λ h. refl;
     }
@@ -69,15 +115,6 @@ module _ (width y : ℕ) (glyphs right₀ right : List ℕ) (x last : ℕ) (goes
 
   right-here : getD (set right (y * 128 + (x - 1)) last′) (y * 128 + (x - 1)) 0 ≡ last′
   right-here = getD-set-same right (y * 128 + (x - 1)) last′ 0 (omega arith)
-
-  last-inside : last′ ≤ width
-  last-inside = go (here && goes-on) picked where
-    go : (t : Bool) → last′ ≡ cond t last (x - 1) → last′ ≤ width
-    go true e = omega arith
-    go false e = omega arith
-
-  pub last-fits : last′ < 256
-  last-fits = omega (arith, last-inside)
 
   back : x ≡ x - 1 + 1
   back = omega arith
@@ -105,7 +142,6 @@ module _ (width y : ℕ) (glyphs right₀ right : List ℕ) (x last : ℕ) (goes
         above = λ i h. right-same i (λ e. omega arith) ∙ so-far .above i h;
         runs = right-runs;
         lastIs = λ h. sym right-here;
-        lastFits = last-inside;
         goesOn = λ h. is;
         ends = λ h. absurd (omega arith);
       }
@@ -114,6 +150,11 @@ pub right-ends : (width y : ℕ) (glyphs right₀ right : List ℕ) (x last : �
     → RightSoFar width y glyphs right₀ right x last goes-on → x ≤ 0 → LineRight width y glyphs right₀ right
 right-ends width y glyphs right₀ right x last goes-on so-far end =
     let e : x ≡ 0 = omega arith in record { kept = so-far .kept; above = so-far .above; runs = rw e at (so-far .runs) }
+
+pub right-self : (width y : ℕ) (glyphs right right′ : List ℕ) (any : Bool) → (any ≡ false → NoRun width y glyphs) → any ≡ false
+    → LineOf width y (λ x. x) right right′ → LineRight width y glyphs right right′
+unfolding RightRuns
+right-self width y glyphs right right′ any none e line = record { kept = line .kept; above = line .above; runs = runs-self (none e) (line .slots) }
 
 -- the lines above y are written
 pub record RightRows (height width : ℕ) (glyphs right₀ right : List ℕ) (y : ℕ) : Type 0 where
@@ -152,99 +193,87 @@ module _ (height width : ℕ) (glyphs right₀ right : List ℕ) (y : ℕ) (room
       }
 
 -- ---- down
-module _ (glyphs down : List ℕ) (y x : ℕ) (t u : Bool) (here : t ≡ vertical (codeGlyph (getD glyphs (y * 128 + x) 0)))
-    (next : u ≡ vertical (codeGlyph (getD glyphs (y * 128 + x + 128) 0))) where
-  next-line : (y + 1) * 128 + x ≡ y * 128 + x + 128
-  next-line = omega arith
+pub joins-tested : (glyphs : List ℕ) (at : ℕ) (here next : Bool) → here ≡ vertical (codeGlyph (getD glyphs at 0)) → next ≡ vertical (codeGlyph (getD glyphs (at + 128) 0))
+    → here && next ≡ joinsBelow glyphs at
+joins-tested glyphs at here next is-here is-next = rw (is-here, is-next)
 
-  pub step-on : t && u ≡ true → getD down (y * 128 + x + 128) 0 ≡ stepDown glyphs down y x
-  step-on e = rw (next-line, ← here, ← next, e)
+-- the first x slots of line y are stepped
+pub stepped-starts : (y : ℕ) (glyphs ends : List ℕ) → Stepped 0 y glyphs ends ends
+stepped-starts y glyphs ends = record { kept = refl; steps = λ x h. absurd (omega arith); rest = λ x h. refl }
 
-  pub step-off : t && u ≡ false → y ≡ stepDown glyphs down y x
-  step-off e = rw (next-line, ← here, ← next, e)
-
-pub line-starts : (y : ℕ) (glyphs down : List ℕ) → LineDown 0 y glyphs down down
-line-starts y glyphs down = record { kept = refl; below = λ i h. refl; stepped = λ x h. absurd (omega arith) }
-
-module _ (width y x : ℕ) (glyphs down₀ down : List ℕ) (so-far : LineDown x y glyphs down₀ down) (room : LineRoom width (y + 1) glyphs down₀) where
-  pub from-room : LineRoom 128 (y + 1) glyphs down
-  from-room = record { widthFits = omega arith; glyphRoom = omega arith; arrayRoom = omega arith }
-
-  pub line-next : (last : ℕ) → x < width → last ≡ stepDown glyphs down y x → LineDown (x + 1) y glyphs down₀ (set down (y * 128 + x) last)
-  line-next last h is =
-      record {
-        kept = simp length-set (so-far .kept);
-        below = λ i low. getD-set-other down (y * 128 + x) i last 0 (λ e. omega arith) ∙ so-far .below i low;
-        stepped = λ k low.
-            ⊎-elim
-            (λ (e : k ≡ x).
-            rw e (getD-set-same down (y * 128 + x) last 0 (omega arith) ∙ is ∙ ap (λ (r : ℕ). cond (vertical (codeGlyph (codeAt glyphs y x)) && vertical (codeGlyph (codeAt glyphs (y + 1) x))) r y) (so-far .below ((y + 1) * 128 + x) (omega arith))))
-            (λ (before : k < x). getD-set-other down (y * 128 + x) (y * 128 + k) last 0 (λ e. omega arith) ∙ so-far .stepped k before)
-            (eq-or-lt-of-le (let q : k ≤ x = omega arith in q));
-      }
-
-  pub line-ends : width ≤ x → LineDown width y glyphs down₀ down
-  line-ends h = record { kept = so-far .kept; below = so-far .below; stepped = λ k low. so-far .stepped k (omega arith) }
-
--- the first x slots of the last line are written
-pub record LastSoFar (y : ℕ) (down₀ down : List ℕ) (x : ℕ) : Type 0 where
-  pub kept : length down ≡ length down₀
-  pub slots : (k : ℕ) → k < x → codeAt down y k ≡ y
-
-pub last-starts : (y : ℕ) (down : List ℕ) → LastSoFar y down down 0
-last-starts y down = record { kept = refl; slots = λ k h. absurd (omega arith) }
-
-pub last-next : (width y x : ℕ) (down₀ down : List ℕ) → LastSoFar y down₀ down x → x < width → width ≤ 128 → y * 128 + 128 ≤ length down₀ → LastSoFar y down₀ (set down (y * 128 + x) y) (x + 1)
-last-next width y x down₀ down so-far h narrow room =
+pub stepped-next : (width y x r : ℕ) (glyphs ends₀ ends : List ℕ) (on : Bool) → Stepped x y glyphs ends₀ ends → x < width → width ≤ length ends₀
+    → on ≡ joinsBelow glyphs (y * 128 + x) → r ≡ cond on (getD ends x 0) y → Stepped (x + 1) y glyphs ends₀ (set ends x r)
+stepped-next width y x r glyphs ends₀ ends on so-far h room joins is =
     record {
       kept = simp length-set (so-far .kept);
-      slots = λ k low.
-          ⊎-elim (λ (e : k ≡ x). rw e (getD-set-same down (y * 128 + x) y 0 (omega arith)))
-          (λ (before : k < x). getD-set-other down (y * 128 + x) (y * 128 + k) y 0 (λ e. omega arith) ∙ so-far .slots k before)
+      steps = λ k low.
+          ⊎-elim (λ (e : k ≡ x). rw e (getD-set-same ends x r 0 (omega (arith, so-far .kept)) ∙ is ∙ rw (joins, so-far .rest x (omega arith))))
+          (λ (before : k < x). getD-set-other ends x k r 0 (λ e. omega arith) ∙ so-far .steps k before)
           (eq-or-lt-of-le (let q : k ≤ x = omega arith in q));
+      rest = λ k high. getD-set-other ends x k r 0 (λ e. omega arith) ∙ so-far .rest k (omega arith);
     }
 
-pub last-ends : (width y x : ℕ) (down₀ down : List ℕ) → LastSoFar y down₀ down x → width ≤ x → (k : ℕ) → k < width → codeAt down y k ≡ y
-last-ends width y x down₀ down so-far h k low = so-far .slots k (omega arith)
+pub stepped-ends : (width y x : ℕ) (glyphs ends₀ ends : List ℕ) → Stepped x y glyphs ends₀ ends → x ≤ width → width ≤ x → Stepped width y glyphs ends₀ ends
+stepped-ends width y x glyphs ends₀ ends so-far low high = let e : x ≡ width = omega arith in rw e at so-far
 
 -- the lines from y on are written
-pub record DownRows (height width : ℕ) (glyphs down₀ down : List ℕ) (y : ℕ) : Type 0 where
+pub record DownRows (height width : ℕ) (glyphs down₀ down ends : List ℕ) (y : ℕ) : Type 0 where
   pub inside : y < height
   pub kept : length down ≡ length down₀
+  pub size : length ends ≡ 128
+  pub endsAre : (x : ℕ) → x < width → getD ends x 0 ≡ codeAt down y x
   pub columns : (x : ℕ) → x < width → DownRuns height x y glyphs down
 
-pub columns-start : (height width : ℕ) (glyphs down₀ down : List ℕ) → (height ≡ 0 → ⊥) → length down ≡ length down₀
-    → ((x : ℕ) → x < width → codeAt down (height - 1) x ≡ height - 1) → DownRows height width glyphs down₀ down (height - 1)
+pub columns-start : (height width : ℕ) (glyphs down₀ down : List ℕ) → (height ≡ 0 → ⊥) → width ≤ 128
+    → LineOf width (height - 1) (λ x. getD (replicate 128 (height - 1)) x 0) down₀ down → DownRows height width glyphs down₀ down (replicate 128 (height - 1)) (height - 1)
 unfolding DownRuns
-columns-start height width glyphs down₀ down some kept last =
+columns-start height width glyphs down₀ down some narrow line =
     record {
       inside = omega arith;
-      kept = kept;
+      kept = line .kept;
+      size = length-replicate {A = ℕ} 128 (height - 1);
+      endsAre = λ x h. sym (line .slots x h);
       columns = λ x h.
-          runs-off (none x) (omega arith) (λ k past to. refl) (λ past. absurd (omega arith)) (last x h);
+          runs-off (none x) (omega arith) (λ k past to. refl) (λ past. absurd (omega arith)) (line .slots x h ∙ getD-replicate 128 x (height - 1) 0 (omega arith));
     } where
       none : (x : ℕ) → RunsFrom (height - 1 + 1) height (λ k. vertical (codeGlyph (codeAt glyphs k x))) (λ k. codeAt down k x)
       none x = let e : height ≡ height - 1 + 1 = omega arith in rw (← e) (runs-none height (λ k. vertical (codeGlyph (codeAt glyphs k x))) (λ k. codeAt down k x))
 
-module _ (height width : ℕ) (glyphs down₀ down : List ℕ) (y : ℕ) (so-far : DownRows height width glyphs down₀ down y) where
-  pub down-room : Roomy height width glyphs down₀ → 0 < y → LineRoom width (y - 1 + 1) glyphs down
-  down-room room some = record { widthFits = omega arith; glyphRoom = omega arith; arrayRoom = omega arith }
-
-  pub columns-next : (down′ : List ℕ) → width ≤ 128 → 0 < y → LineDown width (y - 1) glyphs down down′ → DownRows height width glyphs down₀ down′ (y - 1)
+module _ (height width : ℕ) (glyphs down₀ down ends : List ℕ) (y : ℕ) (so-far : DownRows height width glyphs down₀ down ends y) where
+  pub columns-next : (down′ ends′ : List ℕ) → width ≤ 128 → 0 < y → Stepped width (y - 1) glyphs ends ends′ → LineOf width (y - 1) (λ x. getD ends′ x 0) down down′
+      → DownRows height width glyphs down₀ down′ ends′ (y - 1)
   unfolding DownRuns
-  columns-next down′ narrow some line =
-      record { inside = omega arith; kept = line .kept ∙ so-far .kept; columns = λ x h. column x h (vertical (codeGlyph (codeAt glyphs (y - 1) x))) (vertical (codeGlyph (codeAt glyphs (y - 1 + 1) x))) refl refl } where
+  columns-next down′ ends′ narrow some stepped line =
+      record {
+        inside = omega arith;
+        kept = line .kept ∙ so-far .kept;
+        size = stepped .kept ∙ so-far .size;
+        endsAre = λ x h. sym (line .slots x h);
+        columns = λ x h. column x h (vertical (codeGlyph (codeAt glyphs (y - 1) x))) (vertical (codeGlyph (codeAt glyphs (y - 1 + 1) x))) refl refl;
+      } where
+        back : y ≡ y - 1 + 1
+        back = omega arith
+
         later : (x : ℕ) → x < width → RunsFrom (y - 1 + 1) height (λ k. vertical (codeGlyph (codeAt glyphs k x))) (λ k. codeAt down k x)
-        later x h = let e : y ≡ y - 1 + 1 = omega arith in rw e at (so-far .columns x h)
+        later x h = rw back at (so-far .columns x h)
 
         same : (x : ℕ) → x < width → (k : ℕ) → y - 1 < k → k < height → codeAt down′ k x ≡ codeAt down k x
         same x h k past to = line .below (k * 128 + x) (omega arith)
 
+        below : (x : ℕ) → (y - 1) * 128 + x + 128 ≡ (y - 1 + 1) * 128 + x
+        below x = omega arith
+
+        step : (x : ℕ) → x < width
+            → codeAt down′ (y - 1) x ≡ cond (vertical (codeGlyph (codeAt glyphs (y - 1) x)) && vertical (codeGlyph (codeAt glyphs (y - 1 + 1) x))) (codeAt down (y - 1 + 1) x) (y - 1)
+        step x h = rw (← (below x)) (line .slots x h ∙ stepped .steps x h ∙ ap (λ (e : ℕ). cond (joinsBelow glyphs ((y - 1) * 128 + x)) e (y - 1)) (so-far .endsAre x h ∙ there x)) where
+          there : (x : ℕ) → codeAt down y x ≡ getD down ((y - 1) * 128 + x + 128) 0
+          there x = let e : y * 128 + x ≡ (y - 1) * 128 + x + 128 = omega arith in rw e
+
         column : (x : ℕ) → x < width → (t u : Bool) → vertical (codeGlyph (codeAt glyphs (y - 1) x)) ≡ t → vertical (codeGlyph (codeAt glyphs (y - 1 + 1) x)) ≡ u
             → RunsFrom (y - 1) height (λ k. vertical (codeGlyph (codeAt glyphs k x))) (λ k. codeAt down′ k x)
-        column x h true true e f = runs-on (later x h) (omega arith) (same x h) (omega arith) e f (line .stepped x h ∙ rw (e, f))
-        column x h true false e f = runs-off (later x h) (omega arith) (same x h) (λ next a b. true-not-false (sym b ∙ f)) (line .stepped x h ∙ rw (e, f))
-        column x h false u e f = runs-off (later x h) (omega arith) (same x h) (λ next a b. true-not-false (sym a ∙ e)) (line .stepped x h ∙ rw e)
+        column x h true true e f = runs-on (later x h) (omega arith) (same x h) (omega arith) e f (step x h ∙ rw (e, f))
+        column x h true false e f = runs-off (later x h) (omega arith) (same x h) (λ next a b. true-not-false (sym b ∙ f)) (step x h ∙ rw (e, f))
+        column x h false u e f = runs-off (later x h) (omega arith) (same x h) (λ next a b. true-not-false (sym a ∙ e)) (step x h ∙ rw e)
 
   pub columns-end : y ≤ 0 → ReachDown height width glyphs down
   unfolding DownRuns

@@ -1,10 +1,11 @@
 -- Laws of specs/Reaching.antt: how far places of a line reach, from its last place to its first.
 use Prim.Native.Nat.{ℕ, _+_, _≤_, _<_}
-use mathlib.Core.Path.{_≡_}
-use mathlib.Core.Bool.{Bool, true}
+use mathlib.Core.Path.{_≡_, sym, _∙_}
+use mathlib.Core.Bool.{Bool, true, false, _&&_}
 use mathlib.Core.Logic.{⊎-elim}
 use native.Mathlib.Omega.{arith}
 use native.Mathlib.Nat.{eq-or-lt-of-le}
+use Rattle.seq.proofs.Tests.{true-not-false, and-intro}
 use Rattle.slots.specs.Reaching.{RunsFrom}
 
 pub runs-none : (size : ℕ) (border : ℕ → Bool) (reach : ℕ → ℕ) → RunsFrom size size border reach
@@ -24,6 +25,18 @@ runs-same runs same =
       inside = λ x low high. rw (same x low high) (runs .inside x low high);
       run = λ x e low high over within. runs .run x e low high over (rw (same x low high) at within);
       whole = λ x e low high over all. rw (same x low (omega arith)) (runs .whole x e low high over all);
+    }
+
+-- without two borders side by side each place reaches itself
+pub runs-self : {size : ℕ} {border : ℕ → Bool} {reach : ℕ → ℕ} → ((x : ℕ) → x + 1 < size → border x && border (x + 1) ≡ false)
+    → ((x : ℕ) → x < size → reach x ≡ x) → RunsFrom 0 size border reach
+runs-self apart selves =
+    record {
+      self = λ x low high. omega (arith, selves x high);
+      inside = λ x low high. omega (arith, selves x high);
+      run = λ x e low high over within. absurd (omega (arith, selves x high));
+      whole = λ x e low high over all.
+          absurd (true-not-false (sym (and-intro (all x (omega arith) (omega arith)) (all (x + 1) (omega arith) (omega arith))) ∙ apart x (omega arith)));
     }
 
 -- one place more, x, before those that are known

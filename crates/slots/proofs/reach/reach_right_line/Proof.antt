@@ -1,78 +1,38 @@
--- `slots::reach::reach_right_line` meets its contract: the invariant: the columns from x on are written, and last and goes_on are those of column x.
+-- `slots::reach::reach_right_line` meets its contract: by whether the line has a run.
 use borrow.Author.Needs.{needs}
-use Rattle.slots.proofs.reach.ReachLaws.{RightSoFar, right-starts, last-fits, right-next, right-ends}
+use Rattle.slots.proofs.reach.ReachLaws.{right-self}
 use Rattle.slots.proofs.reach.reach_right_line.Statement.{statement}
 use Rattle.slots.proofs.reach.reach_right_line.Tie as tie
 
-abbrev Inv-loop : tie.InvT-loop
-Inv-loop glyphs y width right₀ x₀ last₀ goes-on₀ right x last goes-on = RightSoFar width y glyphs right₀ right x last goes-on
+has-run-requires : tie.Need-has-run-requires
+has-run-requires c κs = search needs
 
-abbrev μ-loop : tie.MeasureT-loop
-μ-loop glyphs y width right₀ x₀ last₀ goes-on₀ right x last goes-on = x
+reach-runs-requires : tie.Need-reach-runs-requires
+reach-runs-requires c κs = search needs
 
-loop-holds : tie.Need-loop-holds Inv-loop μ-loop
-loop-holds c = search right-starts
+reach-self-requires : tie.Need-reach-self-requires
+reach-self-requires c κs = search needs
 
-sub-x : tie.Need-sub-x Inv-loop μ-loop
-sub-x c = search needs
-
-mul-is-horizontal : tie.Need-mul-is-horizontal Inv-loop μ-loop
-mul-is-horizontal c = search needs
-
-add-is-horizontal : tie.Need-add-is-horizontal Inv-loop μ-loop
-add-is-horizontal c = search needs
-
-shared-slice-read-is-horizontal : tie.Need-shared-slice-read-is-horizontal Inv-loop μ-loop
-shared-slice-read-is-horizontal c = search needs
-
-is-horizontal-requires : tie.Need-is-horizontal-requires Inv-loop μ-loop
-is-horizontal-requires c κs = search needs
-
-run-end-requires : tie.Need-run-end-requires Inv-loop μ-loop
-run-end-requires c κs = search needs
-
-cast-right : tie.Need-cast-right Inv-loop μ-loop
-cast-right c = search last-fits
-
-mul-right : tie.Need-mul-right Inv-loop μ-loop
-mul-right c = search needs
-
-add-right : tie.Need-add-right Inv-loop μ-loop
-add-right c = search needs
-
-slice-write-right : tie.Need-slice-write-right Inv-loop μ-loop
-slice-write-right c = search needs
-
-loop-less : tie.Need-loop-less Inv-loop μ-loop
-loop-less c = search needs
-
-loop-again : tie.Need-loop-again Inv-loop μ-loop
-loop-again c = search right-next
-
-same-length : tie.Need-same-length Inv-loop μ-loop
+same-length : tie.Need-same-length
 same-length c = search needs
 
-returns : tie.Need-returns Inv-loop μ-loop
-returns c = search right-ends
+returns : tie.Need-returns
+returns c = search needs
+
+same-length-2 : tie.Need-same-length-2
+same-length-2 c = search needs
+
+returns-2 : tie.Need-returns-2
+returns-2 c = search (needs, right-self)
 
 pub reach-right-line-spec : {M : Type 1} → statement M
 reach-right-line-spec =
     tie.close
     (tie.spec
-    Inv-loop
-    μ-loop
-    loop-holds
-    sub-x
-    mul-is-horizontal
-    add-is-horizontal
-    shared-slice-read-is-horizontal
-    is-horizontal-requires
-    run-end-requires
-    cast-right
-    mul-right
-    add-right
-    slice-write-right
-    loop-less
-    loop-again
+    has-run-requires
+    reach-runs-requires
+    reach-self-requires
     same-length
-    returns)
+    returns
+    same-length-2
+    returns-2)

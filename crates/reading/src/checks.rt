@@ -1,6 +1,8 @@
 // Reading's checks 13 and 3, before the slots; the Rust has neither.
+use slots::scan::PLAIN;
 use slots::scan::scan_next;
 use text::Column;
+use utf8::line_text::is_plain;
 use utf8::line_text::well_formed;
 ghost use Prim.Native.Nat.{_≤_};
 ghost use mathlib.Core.Path.{_≡_};
@@ -12,7 +14,7 @@ ghost use Rattle.text.specs.Utf8.{wellFormed};
 ghost use Rattle.grid.specs.Flat.{drawingContradicts, splitText};
 ghost use Rattle.grid.specs.LayoutCall.{slotSpace, drawing};
 ghost use Rattle.reading.specs.Agreement.{WithinLimits};
-ghost use Rattle.reading.specs.Checks.{placeOf, LinesScanned};
+ghost use Rattle.reading.specs.Checks.{placeOf, PlainNoted, LinesScanned};
 
 // The first line at fault, or none.
 pub enum Place {
@@ -73,8 +75,20 @@ pub fn first_outside(lengths: &[u16], text: &[u8]) -> Place
     Place::Nowhere
 }
 
-// first_outside, of a drawing's lines: what is known of each of them afterwards goes to the arrays.
-pub fn scan_lines(
+// Notes that the first lines are plain.
+fn note_plain(lines: usize, counts: &mut [u8])
+    requires { ⌜ lines ≤ length (now counts) ⌝ }
+    ensures { λ _. ⌜ PlainNoted lines (now (counts .exit)) ⌝ }
+{
+    let mut y = 0;
+    while y < lines {
+        counts[y] = PLAIN;
+        y += 1;
+    }
+}
+
+// scan_lines, line by line.
+fn scan_each(
     lengths: &[u16],
     columns: &[u16],
     text: &[u8],
@@ -100,4 +114,27 @@ pub fn scan_lines(
         y += 1;
     }
     Place::Nowhere
+}
+
+// first_outside, of a drawing's lines: what is known of each of them afterwards goes to the arrays. One test
+// of the whole text is quicker than one of each line.
+pub fn scan_lines(
+    lengths: &[u16],
+    columns: &[u16],
+    text: &[u8],
+    glyphs: &mut [u8],
+    offsets: &mut [u16],
+    counts: &mut [u8],
+) -> Place
+    requires { ⌜ WithinLimits (now lengths) (now columns) (now text) ⌝ }
+    requires { ⌜ (slotSpace ≤ length (now glyphs)) × (slotSpace ≤ length (now offsets)) × (128 ≤ length (now counts)) ⌝ }
+    ensures { λ r.
+        ⌜ LinesScanned (now (lengths .entry)) (now (columns .entry)) (now (text .entry))
+        (now (glyphs .exit)) (now (offsets .exit)) (now (counts .exit)) r ⌝ }
+{
+    if is_plain(text) {
+        note_plain(lengths.len(), counts);
+        return Place::Nowhere;
+    }
+    scan_each(lengths, columns, text, glyphs, offsets, counts)
 }

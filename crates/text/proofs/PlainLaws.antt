@@ -1,11 +1,11 @@
 -- Laws of plain lines: all characters 20 to 7E.
-use Prim.Native.Nat.{ℕ, _+_, _≤_, _<_}
+use Prim.Native.Nat.{ℕ, zero, suc, _+_, _≤_, _<_}
 use mathlib.Core.Path.{_≡_, refl, sym, ap, _∙_}
 use mathlib.Core.Bool.{Bool, true, _&&_}
 use mathlib.Core.List.{List, [], _∷_}
 use native.Mathlib.Omega.{arith}
-use lib.ListN.{length, drop, getD, drop-of-length-le}
-use Rattle.seq.proofs.Tests.{both-true, and-true, and-assoc}
+use lib.ListN.{length, take, drop, getD, drop-of-length-le}
+use Rattle.seq.proofs.Tests.{both-true, and-intro, and-true, and-assoc}
 use Rattle.seq.specs.Lists.{within}
 use Rattle.seq.proofs.ListsLaws.{within-low, within-high, drop-step}
 use Rattle.text.specs.declared.Decoded.the-variants.{Character}
@@ -46,6 +46,20 @@ plain-span column b bs e =
     let low = within-low 0x20 0x7e b inside in
     span-other column b (λ h. omega arith) ∙ ap columnsOf (ascii-one-column b low (within-high 0x20 0x7e b inside))
 
+-- ---- parts of such a line
+pub plain-take : (n : ℕ) (s : List ℕ) → plain s ≡ true → plain (take n s) ≡ true
+unfolding plain
+plain-take zero s e = refl
+plain-take (suc n) [] e = refl
+plain-take (suc n) (b ∷ bs) e =
+    let both = both-true (within 0x20 0x7e b) (plain bs) e in and-intro (both .0) (plain-take n bs (both .1))
+
+pub plain-drop : (n : ℕ) (s : List ℕ) → plain s ≡ true → plain (drop n s) ≡ true
+plain-drop zero s e = e
+plain-drop (suc n) [] e = e
+plain-drop (suc n) (b ∷ bs) e = plain-drop n bs (plain-rest b bs e)
+
+-- ---- it is well formed
 plain-from : (s : List ℕ) → plain s ≡ true → wellFrom 0 s ≡ true
 unfolding wellFrom
 plain-from [] e = refl

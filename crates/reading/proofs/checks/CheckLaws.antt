@@ -1,9 +1,9 @@
 -- Laws of the checks' loops.
 use Prim.Native.Nat.{ℕ, _+_, _-_, _≤_, _<_}
-use mathlib.Core.Path.{_≡_, sym, _∙_}
+use mathlib.Core.Path.{_≡_, refl, sym, _∙_}
 use mathlib.Core.Bool.{Bool, true, false, not, cond}
 use mathlib.Core.Option.{none, some}
-use mathlib.Core.List.{List}
+use mathlib.Core.List.{List, [], _∷_}
 use native.Mathlib.Omega.{arith}
 use lib.Dec.{eqb}
 use lib.ListN.{length, take, drop, getD, drop-of-length-le}
@@ -11,7 +11,8 @@ use lib.Seq.{drop-drop}
 use borrow.Author.Tests.{ne-eqb}
 use Rattle.seq.specs.Lists.{sum, firstAt}
 use Rattle.seq.proofs.ListsLaws.{drop-step}
-use Rattle.text.specs.Utf8.{wellFormed}
+use Rattle.text.specs.Utf8.{wellFormed, plain}
+use Rattle.text.proofs.PlainLaws.{plain-take, plain-drop, plain-well}
 use Rattle.grid.specs.Flat.{splitText}
 use Rattle.seq.proofs.Walks.{eqb-same, sum-after, sum-end}
 
@@ -55,3 +56,11 @@ module _ (lengths text : List ℕ) (at y : ℕ)
   pub none-outside : length lengths ≤ y → none ≡ firstAt (λ line. not (wellFormed line)) 0 (splitText lengths text)
   unfolding splitText firstAt
   none-outside h = rw (passed, drop-of-length-le lengths h)
+
+-- ---- a text that is plain has no line outside
+pub plain-inside : (lengths text : List ℕ) (y : ℕ) → plain text ≡ true → none ≡ firstAt (λ line. not (wellFormed line)) y (splitText lengths text)
+unfolding splitText firstAt
+plain-inside [] text y e = refl
+plain-inside (n ∷ ns) text y e =
+    let well = plain-well (take n text) true (sym (plain-take n text e)) refl in
+    rw (← well) (plain-inside ns (drop n text) (y + 1) (plain-drop n text e))

@@ -32,8 +32,12 @@ shared-slice-read-end c = omega arith
 cast-end : tie.Need-cast-end Inv-loop μ-loop
 cast-end c = fits-16-64 (c .shared-slice-known3 .given _)
 
+-- where the function started
+abbrev begun : tie.At-loop Inv-loop μ-loop → tie.Start Inv-loop μ-loop
+begun c = search needs
+
 add-end : tie.Need-add-end Inv-loop μ-loop
-add-end c = omega (arith, sum-after (c .before .before .before .before .before .args .lengths .now) (c .before .before .loop .y))
+add-end c = let turn = c .before .before in omega (arith, sum-after (begun turn .args .lengths .now) (turn .loop .y))
 
 sub-well-formed : tie.Need-sub-well-formed Inv-loop μ-loop
 sub-well-formed c = omega arith

@@ -1,10 +1,10 @@
--- `reading::checks::scan_lines` meets its contract. The invariant: the lines before y are in the set and known.
+-- `reading::checks::scan_each` meets its contract. The invariant: the lines before y are in the set and known.
 use Prim.Native.Nat.{_-_}
 use borrow.Author.Needs.{needs}
 use lib.ListN.{length}
 use Rattle.reading.proofs.checks.ScanLaws.{LinesSoFar, lines-start, line-short, line-near, line-within, line-fits, line-columned, line-scannable, line-outside, line-next, lines-known}
-use Rattle.reading.proofs.checks.scan_lines.Statement.{statement}
-use Rattle.reading.proofs.checks.scan_lines.Tie as tie
+use Rattle.reading.proofs.checks.scan_each.Statement.{statement}
+use Rattle.reading.proofs.checks.scan_each.Tie as tie
 
 abbrev Inv-loop : tie.InvT-loop
 Inv-loop lengths columns text glyphs₀ offsets₀ counts₀ at₀ y₀ glyphs offsets counts at y =
@@ -86,8 +86,8 @@ same-length-6 c = search needs
 returns-2 : tie.Need-returns-2 Inv-loop μ-loop
 returns-2 c = search lines-known
 
-pub scan-lines-spec : {M : Type 1} → statement M
-scan-lines-spec =
+pub scan-each-spec : {M : Type 1} → statement M
+scan-each-spec =
     tie.close
     (tie.spec
     Inv-loop

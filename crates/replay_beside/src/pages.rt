@@ -3,7 +3,6 @@ use html_page::PageAnswer;
 use html_page::share::share_of;
 use libc::STDOUT_FILENO;
 use replaying::half_word;
-use replaying::least;
 use replaying::number_field;
 use replaying::numbers_field;
 use replaying::print;
@@ -11,6 +10,7 @@ use replaying::print_digits;
 use replaying::print_refused;
 use replaying::text_field;
 use replaying::word_field;
+use seq::least;
 ghost use Prim.Native.Nat.{_≤_};
 ghost use lib.ListN.{length};
 

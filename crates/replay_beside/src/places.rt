@@ -3,7 +3,6 @@ use libc::STDOUT_FILENO;
 use positions::CellPositionAnswer;
 use positions::PositionsAnswer;
 use positions::span::Sourcepos;
-use replaying::least;
 use replaying::number_field;
 use replaying::numbers_field;
 use replaying::print;
@@ -12,6 +11,7 @@ use replaying::print_refused;
 use replaying::space;
 use replaying::text_field;
 use replaying::words_field;
+use seq::least;
 
 fn print_accepted(position: Sourcepos) {
     io::write_all(STDOUT_FILENO, b"accepted");

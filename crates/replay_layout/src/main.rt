@@ -11,7 +11,6 @@
 use layout::LayoutAnswer;
 use libc::STDOUT_FILENO;
 use replaying::first_line;
-use replaying::least;
 use replaying::next_line;
 use replaying::number_field;
 use replaying::numbers_field;
@@ -20,6 +19,7 @@ use replaying::print_entries;
 use replaying::print_refused;
 use replaying::space;
 use replaying::text_field;
+use seq::least;
 
 fn print_answer(answer: LayoutAnswer, cols: &[u16], rows: &[u16], cells: &[u16], ranges: &[u16]) {
     match answer {

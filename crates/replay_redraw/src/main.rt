@@ -12,7 +12,6 @@
 use cm::draw::RedrawAnswer;
 use libc::STDOUT_FILENO;
 use replaying::first_line;
-use replaying::least;
 use replaying::next_line;
 use replaying::number_field;
 use replaying::numbers_field;
@@ -21,6 +20,7 @@ use replaying::print_entries;
 use replaying::print_refused;
 use replaying::space;
 use replaying::text_field;
+use seq::least;
 
 fn print_answer(answer: RedrawAnswer, lengths: &[u16], columns: &[u16], text: &[u8]) {
     match answer {

@@ -10,7 +10,6 @@
 // An answer is `refused`, number and place; or `accepted`, columns, rows, cells, lines, bytes and all entries of the five arrays.
 use libc::STDOUT_FILENO;
 use replaying::first_line;
-use replaying::least;
 use replaying::next_line;
 use replaying::number_field;
 use replaying::numbers_field;
@@ -20,6 +19,7 @@ use replaying::print_entries;
 use replaying::print_refused;
 use replaying::space;
 use replaying::text_field;
+use seq::least;
 use table::TableAnswer;
 
 fn print_answer(

@@ -1,5 +1,6 @@
 // What the programs that replay cases have in common: the lines of the input, the fields of a case, and printing.
 use libc::STDOUT_FILENO;
+use seq::least;
 ghost use Prim.Native.Nat.{_≤_, _<_};
 ghost use mathlib.Core.Path.{_≡_};
 ghost use lib.ListN.{length};
@@ -74,12 +75,6 @@ fn word(digits: &[u8]) -> u32 {
 // A number of 16 bits; the largest for one that does not fit.
 pub fn half_word(n: u32) -> u16 {
     if n < 65536 { n as u16 } else { 65535 }
-}
-
-pub fn least(a: usize, b: usize) -> usize
-    ensures { λ r. ⌜ (r ≤ a) × (r ≤ b) ⌝ }
-{
-    if a < b { a } else { b }
 }
 
 // Puts a number so many times, as often as there is room, and gives the next place.

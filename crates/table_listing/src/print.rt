@@ -5,7 +5,8 @@ use printing::copy;
 use printing::entry;
 use printing::wide;
 use printing::words;
-ghost use Prim.Native.Nat.{_+_, _*_, _-_, _≤_};
+use seq::least;
+ghost use Prim.Native.Nat.{_+_, _*_, _≤_};
 ghost use mathlib.Core.Path.{_≡_};
 ghost use lib.ListN.{length};
 ghost use Rattle.grid.specs.CellListing.{textLine};
@@ -16,12 +17,6 @@ ghost use Rattle.table_listing.specs.Printing.{TextPut, cellsOf, tableLi
 pub struct Written {
     pub at: usize,
     pub bytes: usize,
-}
-
-fn least(a: usize, b: usize) -> usize
-    ensures { λ r. ⌜ r ≡ a - (a - b) ⌝ }
-{
-    if a < b { a } else { b }
 }
 
 // Two spaces, the line's bytes and its end.

@@ -1,7 +1,8 @@
 // The search for the first bordered rectangle at a corner (layout.rs: find_rect).
 use representation::PLUS;
 use representation::STRIDE;
-ghost use Prim.Native.Nat.{_<_, min};
+use seq::least;
+ghost use Prim.Native.Nat.{_<_};
 ghost use mathlib.Core.Path.{_≡_};
 ghost use Rattle.grid.specs.Rectangle.{firstRect};
 ghost use Rattle.representation.specs.Arrays.{arrayGrid};
@@ -11,12 +12,6 @@ ghost use Rattle.trace.specs.Search.{Ready, foundRect};
 pub enum Found {
     At { bottom: usize, right: usize },
     Nothing,
-}
-
-fn least(a: usize, b: usize) -> usize
-    ensures { λ r. ⌜ r ≡ min a b ⌝ }
-{
-    if a < b { a } else { b }
 }
 
 // A column that has no `+` on top, or whose side ends above line b, fails for every later line, so

@@ -1,5 +1,5 @@
 -- Laws of the cells of a table, written one after another from its arrays.
-use Prim.Native.Nat.{ℕ, zero, suc, _+_, _*_, _-_, _≤_, _<_}
+use Prim.Native.Nat.{ℕ, zero, suc, _+_, _*_, _-_, _≤_, _<_, min}
 use mathlib.Core.Path.{_≡_, refl, ap, sym, _∙_}
 use mathlib.Core.List.{List, [], _∷_, _++_, flatMap, append-assoc, append-nil}
 use native.Mathlib.Omega.{arith}
@@ -44,7 +44,7 @@ abbrev oneCell : List ℕ → List ℕ → List ℕ → ℕ → List ℕ
 oneCell cells lengths text more =
     cellPrinted cells 0 more ++ flatMap textLine (splitText (take more lengths) text)
 
-cells-step : (k : ℕ) (cells lengths text : List ℕ) (more : ℕ) → more ≡ getD cells 4 0 - (getD cells 4 0 - length lengths)
+cells-step : (k : ℕ) (cells lengths text : List ℕ) (more : ℕ) → more ≡ min (getD cells 4 0) (length lengths)
     → cellsOf (suc k) cells lengths text ≡ oneCell cells lengths text more ++ cellsOf k (drop 5 cells) (drop more lengths) (drop (sum (take more lengths)) text)
 unfolding cellsOf cellsOfArray flatMap
 cells-step k cells lengths text more e =
@@ -90,7 +90,7 @@ module _ (count : ℕ) (cells lengths text d : List ℕ) (at : ℕ) where
         fits-under w64 (used + w .bytes) 65536 (omega (arith, q .within, ap length (part-to-end text used), length-drop used text, t .usedIn, t .small)) tt
 
     pub cells-next : {f g : List ℕ} {mid : ℕ} (n more : ℕ) (w : Written) → i < count → (n ≡ getD cells (5 * i + 4) 0) × (n < 65536)
-        → more ≡ n - (n - (length lengths - line)) → Put 110 e f end mid (cellPrinted cells i more)
+        → more ≡ min n (length lengths - line) → Put 110 e f end mid (cellPrinted cells i more)
         → TextPut (take (line + more - line) (drop line lengths)) (take (length text - used) (drop used text)) f g mid w
         → Cells g (i + 1) (line + more) (used + w .bytes) (w .at)
     cells-next n more w h counted least p q =

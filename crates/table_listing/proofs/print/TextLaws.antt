@@ -1,5 +1,5 @@
 -- Laws of the lines of a cell, written one after another.
-use Prim.Native.Nat.{ℕ, _+_, _*_, _-_, _≤_, _<_}
+use Prim.Native.Nat.{ℕ, _+_, _*_, _-_, _≤_, _<_, min}
 use mathlib.Core.Path.{_≡_, refl, ap, sym, _∙_}
 use mathlib.Core.Logic.{⊎-elim}
 use mathlib.Core.List.{List, [], _∷_, _++_, flatMap, append-nil}
@@ -25,7 +25,7 @@ line-put text p q w = put-most (put-then p (put-then q w)) (omega arith)
 
 -- A number of entries, at most those that are there
 
-module _ {A : Type 0} (s : List A) (n r : ℕ) (e : r ≡ n - (n - length s)) where
+module _ {A : Type 0} (s : List A) (n r : ℕ) (e : r ≡ min n (length s)) where
   within : n < length s → r ≡ n
   within h = omega arith
 
@@ -63,13 +63,13 @@ module _ (lengths text d : List ℕ) (at : ℕ) where
   texts-none h = record { few = omega arith; within = omega arith; room = h; left = refl; put = put-none d at (omega arith) }
 
   module _ {e : List ℕ} {i used end : ℕ} (t : Texts e i used end) where
-    pub texts-next : {f : List ℕ} {r : ℕ} (n size : ℕ) → i < length lengths → (n ≡ getD lengths i 0) × (n < 65536) → size ≡ n - (n - (length text - used))
+    pub texts-next : {f : List ℕ} {r : ℕ} (n size : ℕ) → i < length lengths → (n ≡ getD lengths i 0) × (n < 65536) → size ≡ min n (length text - used)
         → Put (length (take (used + size - used) (drop used text)) + 3) e f end r (textLine (take (used + size - used) (drop used text)))
         → Texts f (i + 1) (used + size) r
     texts-next n size h told least p =
         let long : length (drop used text) ≡ length text - used = length-drop used text in
         let same : used + size - used ≡ size = omega arith in
-        let clipped : size ≡ n - (n - length (drop used text)) = rw long least in
+        let clipped : size ≡ min n (length (drop used text)) = rw long least in
         let total : sum (take (i + 1) lengths) ≡ sum (take i lengths) + n = sum-step lengths i h ∙ rw (told .0) in
         let more : take (i + 1) lengths ≡ take i lengths ++ n ∷ [] = rw (add-one, told .0) (take-suc lengths i 0 h) in
         let line : take (used + size - used) (drop used text) ≡ take n (drop (sum (take i lengths)) text) =

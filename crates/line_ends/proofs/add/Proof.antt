@@ -6,16 +6,16 @@ use Rattle.line_ends.proofs.add.Tie as tie
 
 -- where the arguments have been tested, where the end is small enough, and where it is written
 abbrev tested : tie.Else1 → tie.After-bad-end
-tested c = c .before
+tested c = search needs
 
 abbrev small : tie.Else2 → tie.Else1
-small c = c .before .before
+small c = search needs
 
 abbrev room : tie.After-write-end-arg3 → tie.Else3
-room c = c .before .before .before
+room c = search needs
 
 abbrev written : tie.After-slice-known6 → tie.After-write-end
-written c = c .before .before .before .before .before .before
+written c = search needs
 
 contradicts-requires : tie.Need-contradicts-requires
 contradicts-requires c κs = search needs

@@ -6,10 +6,10 @@ use Rattle.line_ends.proofs.find.Tie as tie
 
 -- where the search starts, from its result
 abbrev searched : tie.After-last-end → tie.Else2
-searched c = c .before
+searched c = search needs
 
 abbrev begun : tie.Else2 → tie.Start
-begun c = c .before .before .before .before .before .before
+begun c = search needs
 
 contradicts-requires : tie.Need-contradicts-requires
 contradicts-requires c κs = search needs

@@ -30,8 +30,12 @@ shared-slice-read-at c = search needs
 cast-at : tie.Need-cast-at Inv-loop μ-loop
 cast-at c = fits-16-64 (c .shared-slice-known3 .given _)
 
+-- where the function started
+abbrev begun : tie.At-loop Inv-loop μ-loop → tie.Start Inv-loop μ-loop
+begun c = search needs
+
 add-at : tie.Need-add-at Inv-loop μ-loop
-add-at c = omega (arith, sum-within (c .before .before .before .before .before .args .lengths .now) (c .before .before .loop .i))
+add-at c = let turn = c .before .before in omega (arith, sum-within (begun turn .args .lengths .now) (turn .loop .i))
 
 add-i : tie.Need-add-i Inv-loop μ-loop
 add-i c = search needs
@@ -53,7 +57,7 @@ cast-end c = fits-16-64 (c .shared-slice-known4 .given _)
 
 add-end : tie.Need-add-end Inv-loop μ-loop
 add-end c =
-    let start = c .before .before .before .before .before in
+    let start = begun (c .before .before) in
     let loop = c .before .before .loop in
     omega (arith, line-end (start .args .lengths .now) (start .args .text .now) (loop .at) (loop .i) (loop .inv .1) (start .args .y) (loop .inv .0) (search needs) (start .pre .0))
 

@@ -16,10 +16,16 @@ enum-told c = search needs
 returns : tie.Need-returns
 returns c = search next-none
 
+-- where the function started, and where it searched
+abbrev begun : tie.After-find-rect → tie.Start
+begun c = search needs
+
+abbrev searched : tie.After-bottom → tie.After-find-rect
+searched c = search needs
+
 is-level-requires : tie.Need-is-level-requires
 is-level-requires c κs =
-    let asked = c .before .before .before in
-    level-asked (asked .before .before .before .before .pre .1 .0) _ _ (asked .find-rect .ensures) (c .before .bottom .given .1)
+    let asked = searched (c .before) in level-asked (begun asked .pre .1 .0) _ _ (asked .find-rect .ensures) (c .before .bottom .given .1)
 
 returns-2 : tie.Need-returns-2
 returns-2 c = search next-level

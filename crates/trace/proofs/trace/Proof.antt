@@ -47,26 +47,40 @@ same-length-2 c = search needs
 returns-3 : tie.Need-returns-3 Inv-loop μ-loop
 returns-3 c = (search needs, (search full-stops, search needs))
 
+-- where a rectangle was found, where it was asked for, and the turn of the loop
+abbrev found : tie.After-put-rect-arg Inv-loop μ-loop → tie.After-bottom Inv-loop μ-loop
+found c = search needs
+
+abbrev asked : tie.After-bottom Inv-loop μ-loop → tie.After-next-rect Inv-loop μ-loop
+asked c = search needs
+
+abbrev left-over : tie.After-next-rect Inv-loop μ-loop → tie.Then2 Inv-loop μ-loop
+left-over c = search needs
+
+abbrev turn : tie.After-next-rect Inv-loop μ-loop → tie.At-loop Inv-loop μ-loop
+turn c = search needs
+
 put-rect-requires : tie.Need-put-rect-requires Inv-loop μ-loop
 put-rect-requires c κs =
-    let found = c .before .before .before in
-    let asked = found .before .before in
-    let turn = asked .before .before .before in
-    put-asked (turn .loop .inv .2) (asked .before .if2 .taken) (asked .next-rect .ensures) (found .bottom .given .1) (c .before .if3 .left)
+    let f = found c in
+    let a = asked f in
+    put-asked (turn a .loop .inv .2) (left-over a .if2 .taken) (a .next-rect .ensures) (f .bottom .given .1) (c .before .if3 .left)
+
+-- where it was put down
+abbrev put : tie.After-slice-known2 Inv-loop μ-loop → tie.After-put-rect-arg Inv-loop μ-loop
+put c = search needs
 
 raised-requires : tie.Need-raised-requires Inv-loop μ-loop
 raised-requires c κs =
-    let found = c .before .before .before .before .before .before in
-    let asked = found .before .before in
-    let turn = asked .before .before .before in
-    raised-asked (turn .loop .inv .2) (asked .before .if2 .taken) (asked .next-rect .ensures) (found .bottom .given .1)
+    let f = found (put c) in
+    let a = asked f in
+    raised-asked (turn a .loop .inv .2) (left-over a .if2 .taken) (a .next-rect .ensures) (f .bottom .given .1)
 
 next-corner-requires : tie.Need-next-corner-requires Inv-loop μ-loop
 next-corner-requires c κs =
-    let found = c .before .before .before .before .before .before .before in
-    let asked = found .before .before in
-    let turn = asked .before .before .before in
-    corner-asked (turn .loop .inv .2) (asked .before .if2 .taken) (asked .next-rect .ensures) (found .bottom .given .1) (c .raised .ensures)
+    let f = found (put (c .before)) in
+    let a = asked f in
+    corner-asked (turn a .loop .inv .2) (left-over a .if2 .taken) (a .next-rect .ensures) (f .bottom .given .1) (c .raised .ensures)
 
 add-n : tie.Need-add-n Inv-loop μ-loop
 add-n c = search needs

@@ -19,13 +19,13 @@ abbrev μ-loop : tie.MeasureT-loop
 
 -- where the walk started, from an end that is looked at
 abbrev begun : tie.In-loop Inv-loop μ-loop → tie.Start Inv-loop μ-loop
-begun c = c .before .before .before .before .before
+begun c = search needs
 
 abbrev here : tie.Then1 Inv-loop μ-loop → tie.In-loop Inv-loop μ-loop
-here c = c .before .before .before
+here c = search needs
 
 abbrev past : tie.Else1 Inv-loop μ-loop → tie.In-loop Inv-loop μ-loop
-past c = c .before .before .before
+past c = search needs
 
 loop-holds : tie.Need-loop-holds Inv-loop μ-loop
 loop-holds c = (omega arith, behind-none _ _ _)

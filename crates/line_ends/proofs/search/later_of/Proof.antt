@@ -8,10 +8,10 @@ use Rattle.line_ends.proofs.search.later_of.Tie as tie
 
 -- where the function started, and where an end behind is known
 abbrev begun : tie.Else1 → tie.Start
-begun c = c .before .before .before .before
+begun c = search needs
 
 abbrev behind : tie.After-end-at2 → tie.Else1
-behind c = c .before .before
+behind c = search needs
 
 abbrev given : tie.Start → Register
 given s = register (s .args .count) (now (s .args .lines)) (now (s .args .starts)) (now (s .args .eols))

@@ -125,13 +125,37 @@ search-again c =
 returns-2 : tie.Need-returns-2 Inv-loop μ-loop Inv-search μ-search
 returns-2 c = search none-found
 
+-- from the rectangle: its column, its line, and where the function started
+abbrev cornered : tie.Then5 Inv-loop μ-loop Inv-search μ-search → tie.Then4 Inv-loop μ-loop Inv-search μ-search
+cornered c = search needs
+
+abbrev column : tie.Then4 Inv-loop μ-loop Inv-search μ-search → tie.At-loop Inv-loop μ-loop Inv-search μ-search
+column c = search needs
+
+abbrev plus : tie.At-loop Inv-loop μ-loop Inv-search μ-search → tie.Then3 Inv-loop μ-loop Inv-search μ-search
+plus c = search needs
+
+abbrev inside : tie.Then3 Inv-loop μ-loop Inv-search μ-search → tie.Else2 Inv-loop μ-loop Inv-search μ-search
+inside c = search needs
+
+abbrev line : tie.Else2 Inv-loop μ-loop Inv-search μ-search → tie.At-search Inv-loop μ-loop Inv-search μ-search
+line c = search needs
+
+abbrev corner : tie.At-search Inv-loop μ-loop Inv-search μ-search → tie.Else1 Inv-loop μ-loop Inv-search μ-search
+corner c = search needs
+
+abbrev begun : tie.Else1 Inv-loop μ-loop Inv-search μ-search → tie.Start Inv-loop μ-loop Inv-search μ-search
+begun c = search needs
+
 returns-3 : tie.Need-returns-3 Inv-loop μ-loop Inv-search μ-search
 returns-3 c =
-    let column = c .before .before .before .before .before in
-    let line = column .before .before .before .before .before .before in
-    let pre = line .before .before .before .before .before .before .before .before .pre in
-    one-found _ _ _ _ _ _ _ _ _ (column .loop .inv .2) (pre .0) (pre .1 .0) (pre .1 .1) (line .before .before .before .if1 .left)
-    (column .before .before .before .before .before .if2 .left) (column .before .before .before .if3 .taken) (omega arith) (c .before .before .if4 .taken) (c .if5 .taken)
+    let here = column (cornered c) in
+    let across = plus here in
+    let down = inside across in
+    let passed = corner (line down) in
+    let pre = begun passed .pre in
+    one-found _ _ _ _ _ _ _ _ _ (here .loop .inv .2) (pre .0) (pre .1 .0) (pre .1 .1) (passed .if1 .left) (down .if2 .left) (across .if3 .taken) (omega arith)
+    (cornered c .if4 .taken) (c .if5 .taken)
 
 pub find-rect-spec : {M : Type 1} → statement M
 find-rect-spec =

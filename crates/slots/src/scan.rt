@@ -11,7 +11,7 @@ use text::Column;
 use utf8::line_text::is_plain;
 use utf8::several::is_three;
 use utf8::several::is_two;
-ghost use Prim.Native.Nat.{_+_, _≤_};
+ghost use Prim.Native.Nat.{_+_, _≤_, _<_};
 ghost use mathlib.Core.Path.{_≡_};
 ghost use lib.ListN.{length};
 ghost use Rattle.slots.specs.Scan.{PutWithin, LineScanned, clipped as clippedOf, ScanRoom, NextScanned};
@@ -43,6 +43,13 @@ fn put_within(
     if n + count <= STRIDE {
         put_slots(glyphs, offsets, at + n, count, false, value, byte);
     }
+}
+
+// The columns of a character of two bytes, by the first of them: marks begin with CC.
+fn columns_of_two(a: u32) -> usize
+    ensures { λ r. ⌜ (r ≤ 1) × (a < 0xcc → r ≡ 1) × (0xcc ≤ a → r ≡ 0) ⌝ }
+{
+    if a < 0xcc { 1 } else { 0 }
 }
 
 // The columns of a trimmed line, whose slots go to the arrays from index `at` on as far as there are 128. Past
@@ -77,18 +84,14 @@ fn scan_line(
             put_within(glyphs, offsets, at, Column(n), count, a, ByteAt(byte));
             byte += 1;
             n += count;
-        } else if a < 0xcc {
-            if !is_two(line, ByteAt(byte)) {
-                return Scanned::Outside;
-            }
-            put_within(glyphs, offsets, at, Column(n), 1, a, ByteAt(byte));
-            byte += 2;
-            n += 1;
         } else if a < 0xe0 {
             if !is_two(line, ByteAt(byte)) {
                 return Scanned::Outside;
             }
+            let count = columns_of_two(a);
+            put_within(glyphs, offsets, at, Column(n), count, a, ByteAt(byte));
             byte += 2;
+            n += count;
         } else {
             if !is_three(line, ByteAt(byte)) {
                 return Scanned::Outside;

@@ -10,6 +10,7 @@ use lib.ListN.{length, take, drop, getD, replicate, length-append, length-drop, 
 use lib.Seq.{take-at, drop-at, drop-drop, take-add, take-all, length-take-le, getD-drop}
 use borrow.Author.Tests.{ne-eqb, not-true, not-false}
 use Rattle.seq.specs.Lists.{within}
+use Rattle.seq.proofs.Tests.{le-or-lt}
 use Rattle.seq.proofs.ListsLaws.{within-low}
 use Rattle.text.specs.declared.Decoded.the-variants.{Character, Refused}
 use Rattle.text.specs.Characters.{columnsOf, inSet, span}
@@ -202,23 +203,13 @@ module _ (line : List ℕ) (first at : ℕ) (glyphs₀ offsets₀ glyphs offsets
         scan-next (first-ascii line byte (first + n) a here t count low told stands spans) glyphs′ offsets′ room room′ put
 
     module _ (t : Bool) (stands : not t ≡ false) where
-      pub next-narrow : Whole line byte 2 t → 0x80 ≤ a → a < 0xcc → (glyphs′ offsets′ : List ℕ) → PutWithin at n 1 a byte glyphs offsets glyphs′ offsets′
-          → ScanSoFar line first at glyphs₀ offsets₀ glyphs′ offsets′ (byte + 2) (n + 1)
-      next-narrow w high low glyphs′ offsets′ put = scan-next (first-narrow line byte (first + n) a here t stands w high low) glyphs′ offsets′ room room′ put
-
-      -- a mark takes no slot
-      pub next-mark : Whole line byte 2 t → 0x80 ≤ a → 0xcc ≤ a → a < 0xe0 → ScanSoFar line first at glyphs₀ offsets₀ glyphs offsets (byte + 2) n
-      next-mark w high low below =
-          rw (add-zero n) at
-          (scan-next (first-mark line byte (first + n) a here t stands w high low below) glyphs offsets room room′
-          (record {
-            glyphsKept = refl;
-            offsetsKept = refl;
-            glyphsBefore = refl;
-            offsetsBefore = refl;
-            glyphsPut = λ h. replaced-none glyphs (at + n);
-            offsetsPut = λ h. replaced-none offsets (at + n);
-          }))
+      -- a letter, or a mark, which takes no slot
+      pub next-two : Whole line byte 2 t → 0x80 ≤ a → a < 0xe0 → (count : ℕ) → (a < 0xcc → count ≡ 1) → (0xcc ≤ a → count ≡ 0) → (glyphs′ offsets′ : List ℕ)
+          → PutWithin at n count a byte glyphs offsets glyphs′ offsets′ → ScanSoFar line first at glyphs₀ offsets₀ glyphs′ offsets′ (byte + 2) (n + count)
+      next-two w high below count one none glyphs′ offsets′ put =
+          ⊎-elim (λ (h : 0xcc ≤ a). scan-next (rw (none h) (first-mark line byte (first + n) a here t stands w high h below)) glyphs′ offsets′ room room′ put)
+          (λ (h : a < 0xcc). scan-next (rw (one h) (first-narrow line byte (first + n) a here t stands w high h)) glyphs′ offsets′ room room′ put)
+          (le-or-lt 0xcc a)
 
       pub next-wide : Whole line byte 3 t → 0xe0 ≤ a → (glyphs′ offsets′ : List ℕ) → PutWithin at n 2 a byte glyphs offsets glyphs′ offsets′
           → ScanSoFar line first at glyphs₀ offsets₀ glyphs′ offsets′ (byte + 3) (n + 2)

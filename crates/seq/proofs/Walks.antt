@@ -1,6 +1,6 @@
 -- Laws of a walk along a list: one step of a sum, a search and a selection.
 use Prim.Native.Nat.{ℕ, zero, suc, _+_, _≤_, _<_}
-use mathlib.Core.Path.{_≡_, refl, sym}
+use mathlib.Core.Path.{_≡_, refl, sym, ap, _∙_}
 use mathlib.Core.Bool.{Bool, true, false, _&&_, _||_}
 use mathlib.Core.List.{List, [], _∷_, _++_, map, List·Memᴰ, List·Memᴰ·head, List·Memᴰ·tail}
 use native.Mathlib.Omega.{arith}
@@ -10,7 +10,7 @@ use lib.ListN.{length, take, drop, getD, drop-of-length-le}
 use borrow.Author.Tests.{eqb-true, eqb-false, eq-eqb, ne-eqb}
 use lib.Seq.{drop-nil}
 use Rattle.seq.specs.Lists.{sum, all, any, select}
-use Rattle.seq.proofs.Tests.{and-assoc}
+use Rattle.seq.proofs.Tests.{and-true, and-assoc}
 use Rattle.seq.proofs.ListsLaws.{drop-step}
 
 -- two tests of equal numbers that hold together
@@ -65,6 +65,18 @@ module _ {A : Type 0} (test : A → Bool) where
   unfolding all
   all-append [] t = refl
   all-append (a ∷ s) t = rw (all-append s t) (sym (and-assoc (test a) (all test s) (all test t)))
+
+-- a test of each number, so far passed or not
+module _ (test : ℕ → Bool) (s : List ℕ) (i : ℕ) (t : Bool) (so-far : all test s ≡ t && all test (drop i s)) where
+  pub all-next : (u : Bool) → i < length s → u ≡ test (getD s i 0) → all test s ≡ (t && u) && all test (drop (i + 1) s)
+  unfolding all
+  all-next u inside is =
+      so-far ∙ ap (λ (l : List ℕ). t && all test l) (drop-step s i inside) ∙ ap (λ (v : Bool). t && (v && all test (drop (i + 1) s))) (sym is)
+      ∙ sym (and-assoc t u (all test (drop (i + 1) s)))
+
+  pub all-ends : length s ≤ i → t ≡ all test s
+  unfolding all
+  all-ends past = sym (so-far ∙ ap (λ (l : List ℕ). t && all test l) (drop-of-length-le s past) ∙ and-true t)
 
 pub select-agree : {A : Type 0} (test other : A → Bool) (l : List A) → ((a : A) → List·Memᴰ a l → test a ≡ other a) → select test l ≡ select other l
 unfolding select

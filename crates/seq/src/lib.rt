@@ -1,10 +1,2 @@
 // Lists, ranges and searches that the toolchain's library lacks: definitions in specs/, laws in
 // proofs/. Nothing here knows of grid tables.
-ghost use Prim.Native.Nat.{min};
-ghost use mathlib.Core.Path.{_≡_};
-
-pub fn least(a: usize, b: usize) -> usize
-    ensures { λ r. ⌜ r ≡ min a b ⌝ }
-{
-    if a < b { a } else { b }
-}

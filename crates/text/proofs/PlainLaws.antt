@@ -4,10 +4,11 @@ use mathlib.Core.Path.{_≡_, refl, sym, ap, _∙_}
 use mathlib.Core.Bool.{Bool, true, _&&_}
 use mathlib.Core.List.{List, [], _∷_}
 use native.Mathlib.Omega.{arith}
-use lib.ListN.{length, take, drop, getD, drop-of-length-le}
-use Rattle.seq.proofs.Tests.{both-true, and-intro, and-true, and-assoc}
-use Rattle.seq.specs.Lists.{within}
-use Rattle.seq.proofs.ListsLaws.{within-low, within-high, drop-step}
+use lib.ListN.{length, take, drop, getD}
+use Rattle.seq.proofs.Tests.{both-true, and-intro}
+use Rattle.seq.specs.Lists.{within, all}
+use Rattle.seq.proofs.ListsLaws.{within-low, within-high}
+use Rattle.seq.proofs.Walks.{all-next, all-ends}
 use Rattle.text.specs.declared.Decoded.the-variants.{Character}
 use Rattle.text.specs.Utf8.{character, wellFrom, wellFormed, plain}
 use Rattle.text.specs.Characters.{columnsOf, span}
@@ -17,13 +18,11 @@ use Rattle.text.proofs.Utf8Laws.{character-ascii}
 -- ---- what the code's loop over a line says: so far all are
 pub plain-next : (s : List ℕ) (i : ℕ) (t u : Bool) → i < length s → u ≡ within 0x20 0x7e (getD s i 0) → plain s ≡ (t && plain (drop i s)) → plain s ≡ ((t && u) && plain (drop (i + 1) s))
 unfolding plain
-plain-next s i t u inside is so-far =
-    so-far ∙ ap (λ (l : List ℕ). t && plain l) (drop-step s i inside) ∙ ap (λ (v : Bool). t && (v && plain (drop (i + 1) s))) (sym is)
-    ∙ sym (and-assoc t u (plain (drop (i + 1) s)))
+plain-next s i t u inside is so-far = all-next (λ b. within 0x20 0x7e b) s i t so-far u inside is
 
 pub plain-ends : (s : List ℕ) (i : ℕ) (t : Bool) → length s ≤ i → plain s ≡ (t && plain (drop i s)) → t ≡ plain s
 unfolding plain
-plain-ends s i t past so-far = sym (so-far ∙ ap (λ (l : List ℕ). t && plain l) (drop-of-length-le s past) ∙ and-true t)
+plain-ends s i t past so-far = all-ends (λ b. within 0x20 0x7e b) s i t so-far past
 
 -- ---- such a line is in the set, a byte a character
 first-plain : (b : ℕ) (bs : List ℕ) → within 0x20 0x7e b && plain bs ≡ true → character (b ∷ bs) ≡ Character b 1
@@ -32,15 +31,15 @@ first-plain b bs e =
     character-ascii b bs (within-low 0x20 0x7e b low-high) (within-high 0x20 0x7e b low-high)
 
 pub plain-first : (b : ℕ) (bs : List ℕ) → plain (b ∷ bs) ≡ true → character (b ∷ bs) ≡ Character b 1
-unfolding plain
+unfolding plain all
 plain-first b bs e = first-plain b bs e
 
 pub plain-rest : (b : ℕ) (bs : List ℕ) → plain (b ∷ bs) ≡ true → plain bs ≡ true
-unfolding plain
+unfolding plain all
 plain-rest b bs e = both-true (within 0x20 0x7e b) (plain bs) e .1
 
 pub plain-span : (column b : ℕ) (bs : List ℕ) → plain (b ∷ bs) ≡ true → span column b ≡ 1
-unfolding plain
+unfolding plain all
 plain-span column b bs e =
     let inside = both-true (within 0x20 0x7e b) (plain bs) e .0 in
     let low = within-low 0x20 0x7e b inside in
@@ -48,7 +47,7 @@ plain-span column b bs e =
 
 -- ---- parts of such a line
 pub plain-take : (n : ℕ) (s : List ℕ) → plain s ≡ true → plain (take n s) ≡ true
-unfolding plain
+unfolding plain all
 plain-take zero s e = refl
 plain-take (suc n) [] e = refl
 plain-take (suc n) (b ∷ bs) e =

@@ -1,10 +1,11 @@
 -- Laws of specs/Trim.antt.
-use Prim.Native.Nat.{ℕ, zero, suc, _-_, _≤_, _<_}
+use Prim.Native.Nat.{ℕ, zero, suc, _+_, _-_, _≤_, _<_}
 use mathlib.Core.Path.{_≡_, refl, sym, ap, _∙_}
 use mathlib.Core.Bool.{Bool, true, false, not, cond}
 use mathlib.Core.List.{List, [], _∷_, _++_, append-nil, append-assoc}
 use native.Mathlib.Omega.{arith}
-use lib.ListN.{length, take, getD, replicate}
+use lib.ListN.{length, take, drop, getD, replicate}
+use lib.Seq.{take-add}
 use borrow.Author.Tests.{not-true, not-false}
 use Rattle.seq.proofs.Tests.{both-true}
 use Rattle.seq.specs.Lists.{all}
@@ -48,6 +49,13 @@ module _ (s : List ℕ) (n : ℕ) (scanned : trimEnd s ≡ trimEnd (take n s)) w
   pub trim-goes-on : (t : Bool) → 0 < n → n ≤ length s → t ≡ blank (getD s (n - 1) 0) → not t ≡ false → trimEnd s ≡ trimEnd (take (n - 1) s)
   trim-goes-on t pos h e f =
       scanned ∙ ap trimEnd (take-last s n pos h) ∙ trim-blank (take (n - 1) s) (getD s (n - 1) 0) (sym e ∙ not-false t f)
+
+  -- a block of blanks is dropped at once
+  pub trim-block : (size : ℕ) (t : Bool) → size ≤ n → t ≡ all blank (take (n - (n - size)) (drop (n - size) s)) → not t ≡ false → trimEnd s ≡ trimEnd (take (n - size) s)
+  trim-block size t fits e f =
+      let parts : n ≡ n - size + (n - (n - size)) = omega arith in
+      scanned ∙ ap (λ (k : ℕ). trimEnd (take k s)) parts ∙ ap trimEnd (take-add (n - size) (n - (n - size)) s)
+      ∙ trim-blanks (take (n - size) s) (take (n - (n - size)) (drop (n - size) s)) (sym e ∙ not-false t f)
 
   pub trim-leaves-none : n ≤ 0 → [] ≡ trimEnd s
   unfolding trimEnd

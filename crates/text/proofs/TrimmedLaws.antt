@@ -1,12 +1,12 @@
 -- A line and the same line trimmed: `wellFormed-trim`, `plain-trim`. A rule is plain: `rule-plain`.
-use Prim.Native.Nat.{ℕ, zero, suc}
+use Prim.Native.Nat.{ℕ}
 use mathlib.Core.Path.{_≡_, refl, sym, ap, _∙_}
 use mathlib.Core.Logic.{⊎-elim}
 use mathlib.Core.Bool.{Bool, true, false, not, _&&_, cond}
 use mathlib.Core.List.{List, [], _∷_, _++_}
 use native.Mathlib.Omega.{arith}
 use lib.Dec.{eqb}
-use lib.ListN.{length, take, drop, take-append-drop}
+use lib.ListN.{length, drop, take-append-drop}
 use borrow.Author.Tests.{eqb-true}
 use Rattle.seq.specs.Lists.{within, all, isEmpty}
 use Rattle.seq.proofs.Tests.{true-not-false, bool-same, or-cases, both-true, and-intro, and-left, and-right}
@@ -14,6 +14,7 @@ use Rattle.text.specs.Characters.{space, tab, plus, colon, widthOf, inSe
 use Rattle.text.specs.Trim.{blank, beforeTrimmed, trimEnd}
 use Rattle.text.specs.Utf8.{decoded, character, wellFrom, wellFormed, plain}
 use Rattle.text.specs.Rule.{partsAtPlus, ontoFirst, dropLeadingColon, dropTrailingColon, fills, isSegment, closedSegments, isRule}
+use Rattle.text.proofs.PlainLaws.{plain-take}
 use Rattle.text.proofs.TrimLaws.{trim-prefix}
 use Rattle.text.proofs.PartLaws.{well-trimmed}
 use Rattle.text.proofs.SpanLaws.{well-append}
@@ -47,12 +48,6 @@ wellFormed-trim s =
     (λ w. ap wellFormed (sym (trim-apart s)) ∙ well-append 0 (trimEnd s) (drop (length (trimEnd s)) s) (omega arith) w ∙ blanks-well (drop (length (trimEnd s)) s) (trim-drops s))
     (well-trimmed s)
 
-plain-take : (n : ℕ) (s : List ℕ) → plain s ≡ true → plain (take n s) ≡ true
-unfolding plain
-plain-take zero s e = refl
-plain-take (suc n) [] e = refl
-plain-take (suc n) (b ∷ bs) e = let (here, later) = both-true (within 0x20 0x7e b) (plain bs) e in and-intro here (plain-take n bs later)
-
 pub plain-trim : (s : List ℕ) → plain s ≡ true → plain (trimEnd s) ≡ true
 plain-trim s e = rw (trim-prefix s) (plain-take (length (trimEnd s)) s e)
 
@@ -61,7 +56,7 @@ byte-plain : (b c : ℕ) → eqb b c ≡ true → within 0x20 0x7e c ≡ true �
 byte-plain b c e h = rw (eqb-true b c e) h
 
 leading-plain : (s : List ℕ) → plain (dropLeadingColon s) ≡ true → plain s ≡ true
-unfolding plain
+unfolding plain all
 leading-plain [] e = refl
 leading-plain (b ∷ bs) e = go (eqb b colon) refl e where
   go : (t : Bool) → eqb b colon ≡ t → plain (cond t bs (b ∷ bs)) ≡ true → within 0x20 0x7e b && plain bs ≡ true
@@ -69,7 +64,7 @@ leading-plain (b ∷ bs) e = go (eqb b colon) refl e where
   go false is e = e
 
 trailing-plain : (s : List ℕ) → plain (dropTrailingColon s) ≡ true → plain s ≡ true
-unfolding plain dropTrailingColon
+unfolding plain all dropTrailingColon
 trailing-plain [] e = refl
 trailing-plain (b ∷ []) e = go (eqb b colon) refl e where
   go : (t : Bool) → eqb b colon ≡ t → plain (cond t [] (b ∷ [])) ≡ true → within 0x20 0x7e b && true ≡ true
@@ -115,7 +110,7 @@ module _ (fill : ℕ) (filling : within 0x20 0x7e fill ≡ true) where
         and-intro here (later (and-intro more rest))
 
   pub rule-plain : (s : List ℕ) → isRule fill s ≡ true → plain s ≡ true
-  unfolding isRule plain
+  unfolding isRule plain all
   rule-plain [] e = refl
   rule-plain (b ∷ bs) e =
       let (here, later) = both-true (eqb b plus) (closedSegments fill (partsAtPlus bs)) e in

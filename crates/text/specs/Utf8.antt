@@ -4,7 +4,7 @@ use mathlib.Core.Bool.{Bool, true, false, _&&_, cond}
 use mathlib.Core.List.{List, [], _∷_}
 use lib.Dec.{leb, ltb}
 use lib.ListN.{getD}
-use Rattle.seq.specs.Lists.{within}
+use Rattle.seq.specs.Lists.{within, all}
 use Rattle.text.specs.Characters.{inSet}
 use Rattle.text.specs.declared.Decoded.{Decoded}
 use Rattle.text.specs.declared.Decoded.the-variants.{Character, Refused}
@@ -75,5 +75,4 @@ wellFormed line = wellFrom 0 line
 
 -- a line of characters 20 to 7E alone: a byte and a column each
 unfoldable pub plain : List ℕ → Bool
-plain [] = true
-plain (b ∷ bs) = within 0x20 0x7e b && plain bs
+plain line = all (λ b. within 0x20 0x7e b) line

@@ -3,7 +3,7 @@ use Prim.Native.Nat.{ℕ, _+_, _≤_}
 use mathlib.Core.Path.{_≡_}
 use borrow.Author.Needs.{needs}
 use lib.ListN.{length, take}
-use lib.Seq.{take-length, length-take-le}
+use lib.Seq.{length-take-le}
 use native.Mathlib.Nat.{zero-add}
 use Rattle.text.specs.Trim.{trimEnd}
 use Rattle.text.proofs.TrimLaws.{trim-stops, trim-goes-on, trim-leaves-none}
@@ -20,8 +20,11 @@ Inv-loop text n₀ n = (n ≤ length text) × (trimEnd text ≡ trimEnd (take n 
 abbrev μ-loop : tie.MeasureT-loop
 μ-loop text n₀ n = n
 
+without-blocks-requires : tie.Need-without-blocks-requires Inv-loop μ-loop
+without-blocks-requires c κs = search needs
+
 loop-holds : tie.Need-loop-holds Inv-loop μ-loop
-loop-holds c = search (needs, take-length)
+loop-holds c = search needs
 
 sub-is-blank : tie.Need-sub-is-blank Inv-loop μ-loop
 sub-is-blank c = search needs
@@ -65,6 +68,7 @@ trim-end-spec =
     (tie.spec
     Inv-loop
     μ-loop
+    without-blocks-requires
     loop-holds
     sub-is-blank
     shared-slice-read-is-blank

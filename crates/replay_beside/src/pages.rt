@@ -2,6 +2,7 @@
 use html_page::PageAnswer;
 use html_page::share::share_of;
 use libc::STDOUT_FILENO;
+use numbers::least;
 use replaying::half_word;
 use replaying::number_field;
 use replaying::numbers_field;
@@ -10,7 +11,6 @@ use replaying::print_digits;
 use replaying::print_refused;
 use replaying::text_field;
 use replaying::word_field;
-use seq::least;
 ghost use Prim.Native.Nat.{_≤_};
 ghost use lib.ListN.{length};
 

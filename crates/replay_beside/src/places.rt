@@ -1,5 +1,6 @@
 // The cases of positions.
 use libc::STDOUT_FILENO;
+use numbers::least;
 use positions::CellPositionAnswer;
 use positions::PositionsAnswer;
 use positions::span::Sourcepos;
@@ -11,7 +12,6 @@ use replaying::print_refused;
 use replaying::space;
 use replaying::text_field;
 use replaying::words_field;
-use seq::least;
 
 fn print_accepted(position: Sourcepos) {
     io::write_all(STDOUT_FILENO, b"accepted");

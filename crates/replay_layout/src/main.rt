@@ -10,6 +10,7 @@
 // An answer is `refused`, number and place; or `accepted`, width, columns, rows, cells, ranges and all entries of the four arrays.
 use layout::LayoutAnswer;
 use libc::STDOUT_FILENO;
+use numbers::least;
 use replaying::first_line;
 use replaying::next_line;
 use replaying::number_field;
@@ -19,7 +20,6 @@ use replaying::print_entries;
 use replaying::print_refused;
 use replaying::space;
 use replaying::text_field;
-use seq::least;
 
 fn print_answer(answer: LayoutAnswer, cols: &[u16], rows: &[u16], cells: &[u16], ranges: &[u16]) {
     match answer {

@@ -11,6 +11,7 @@
 // An answer is `refused`, number and place; or `accepted`, lines, bytes, all line lengths, all line columns, and the text as it is.
 use cm::draw::RedrawAnswer;
 use libc::STDOUT_FILENO;
+use numbers::least;
 use replaying::first_line;
 use replaying::next_line;
 use replaying::number_field;
@@ -20,7 +21,6 @@ use replaying::print_entries;
 use replaying::print_refused;
 use replaying::space;
 use replaying::text_field;
-use seq::least;
 
 fn print_answer(answer: RedrawAnswer, lengths: &[u16], columns: &[u16], text: &[u8]) {
     match answer {

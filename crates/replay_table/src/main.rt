@@ -9,6 +9,7 @@
 //
 // An answer is `refused`, number and place; or `accepted`, columns, rows, cells, lines, bytes and all entries of the five arrays.
 use libc::STDOUT_FILENO;
+use numbers::least;
 use replaying::first_line;
 use replaying::next_line;
 use replaying::number_field;
@@ -19,7 +20,6 @@ use replaying::print_entries;
 use replaying::print_refused;
 use replaying::space;
 use replaying::text_field;
-use seq::least;
 use table::TableAnswer;
 
 fn print_answer(

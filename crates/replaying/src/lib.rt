@@ -1,6 +1,6 @@
 // What the programs that replay cases have in common: the lines of the input, the fields of a case, and printing.
 use libc::STDOUT_FILENO;
-use seq::least;
+use numbers::least;
 ghost use Prim.Native.Nat.{_≤_, _<_};
 ghost use mathlib.Core.Path.{_≡_};
 ghost use lib.ListN.{length};

@@ -1,13 +1,12 @@
 // The cells of a table, printed into a buffer. Each function gives the place after what it wrote.
+use numbers::least;
 use printing::byte;
 use printing::cell_line;
 use printing::copy;
 use printing::entry;
 use printing::wide;
 use printing::words;
-use seq::least;
 ghost use Prim.Native.Nat.{_+_, _*_, _≤_};
-ghost use mathlib.Core.Path.{_≡_};
 ghost use lib.ListN.{length};
 ghost use Rattle.grid.specs.CellListing.{textLine};
 ghost use Rattle.printing.specs.Printing.{Put, Prints};

@@ -1,7 +1,7 @@
 // The search for the first bordered rectangle at a corner (layout.rs: find_rect).
+use numbers::least;
 use representation::PLUS;
 use representation::STRIDE;
-use seq::least;
 ghost use Prim.Native.Nat.{_<_};
 ghost use mathlib.Core.Path.{_≡_};
 ghost use Rattle.grid.specs.Rectangle.{firstRect};

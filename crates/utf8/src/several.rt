@@ -28,9 +28,6 @@ pub fn is_two(line: &[u8], at: ByteAt) -> bool
 {
     let at = at.0;
     let a = byte_or_zero(line, at) as u32;
-    if a < 0xc0 {
-        return false;
-    }
     let b = byte_or_zero(line, at + 1) as u32;
     if is_continuation(b) {
         if within(0xc3, 0xc5, a) {
@@ -39,6 +36,9 @@ pub fn is_two(line: &[u8], at: ByteAt) -> bool
         if a == 0xcc {
             return true;
         }
+    }
+    if a < 0xc0 {
+        return false;
     }
     is_character(from_two(a, b))
 }

@@ -10,9 +10,6 @@ byte-or-zero-requires c κs = search needs
 cast-a : tie.Need-cast-a
 cast-a c = search needs
 
-returns : tie.Need-returns
-returns c = search (needs, two-none)
-
 add-byte-or-zero : tie.Need-add-byte-or-zero
 add-byte-or-zero c = search needs
 
@@ -28,11 +25,14 @@ is-continuation-requires c κs = search needs
 within-requires : tie.Need-within-requires
 within-requires c κs = search needs
 
+returns : tie.Need-returns
+returns c = search (needs, two-narrow)
+
 returns-2 : tie.Need-returns-2
-returns-2 c = search (needs, two-narrow)
+returns-2 c = search (needs, two-mark)
 
 returns-3 : tie.Need-returns-3
-returns-3 c = search (needs, two-mark)
+returns-3 c = search (needs, two-none)
 
 from-two-requires : tie.Need-from-two-requires
 from-two-requires c κs = search needs
@@ -49,12 +49,12 @@ is-two-spec =
     (tie.spec
     byte-or-zero-requires
     cast-a
-    returns
     add-byte-or-zero
     byte-or-zero-requires-2
     cast-b
     is-continuation-requires
     within-requires
+    returns
     returns-2
     returns-3
     from-two-requires

@@ -45,7 +45,7 @@ fn put_within(
     }
 }
 
-// The columns of a character of two bytes, by the first of them: marks begin with CC.
+// The columns of a character of the set of two bytes, by the first of them: from CC on they are marks.
 fn columns_of_two(a: u32) -> usize
     ensures { λ r. ⌜ (r ≤ 1) × (a < 0xcc → r ≡ 1) × (0xcc ≤ a → r ≡ 0) ⌝ }
 {

@@ -1,11 +1,11 @@
 -- What writing the arrays of a layout needs.
-use Prim.Native.Nat.{ℕ, _*_, _-_, _≤_, _<_}
+use Prim.Native.Nat.{ℕ, _+_, _*_, _-_, _≤_, _<_}
 use mathlib.Core.Path.{_≡_}
 use mathlib.Core.List.{List, List·Memᴰ}
-use lib.ListN.{length}
+use lib.ListN.{length, getD}
 use Rattle.grid.specs.Values.{Rect}
 use Rattle.grid.specs.LayoutCall.{LayoutArrays, slotSpace}
-use Rattle.representation.specs.Arrays.{codeAt, rectsOf}
+use Rattle.representation.specs.Arrays.{codeAt, rectIn, rectsOf}
 use Rattle.representation.specs.LayoutEntries.{linesHeld, Rising, allRanges, Numbered}
 use Rattle.representation.specs.declared.Bounds.{Bounds}
 use Rattle.representation.specs.declared.Parts.{Parts}
@@ -30,3 +30,12 @@ pub record LayoutWritable (rects glyphs offsets : List ℕ) (n : ℕ) (tops left
   pub rowsFit : 3 * (tops .count - 1) ≤ length (out .rows)
   pub cellsFit : 5 * n ≤ length (out .cells)
   pub rangesFit : length (allRanges offsets (rectsOf n rects)) ≤ length (out .ranges)
+
+-- an array has room for a number more of each of n rectangles, entry `step * k + from`
+pub record MoreRoom (n : ℕ) (array : List ℕ) (step from : ℕ) : Type 0 where
+  pub inside : (k : ℕ) → k < n → step * k + from < length array
+  pub small : (k : ℕ) → k < n → step * k + from < 4096
+
+-- and has these
+abbrev pub MoreIn : (Rect → ℕ) → List ℕ → ℕ → List ℕ → ℕ → ℕ → Type 0
+MoreIn more rects n array step from = (k : ℕ) → k < n → getD array (step * k + from) 0 ≡ more (rectIn rects k)

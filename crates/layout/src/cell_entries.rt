@@ -1,6 +1,6 @@
 // The entries of cells.
 use representation::Bounds;
-ghost use Prim.Native.Nat.{_+_, _*_, _-_, _≤_, _<_};
+ghost use Prim.Native.Nat.{ℕ, _+_, _*_, _≤_};
 ghost use mathlib.Core.Path.{_≡_};
 ghost use mathlib.Core.List.{[], _∷_, _++_, List·Memᴰ};
 ghost use lib.ListN.{length, take, drop};
@@ -8,6 +8,8 @@ ghost use Rattle.grid.specs.Values.{Rect};
 ghost use Rattle.grid.specs.Answer.{over};
 ghost use Rattle.representation.specs.Arrays.{rectsOf};
 ghost use Rattle.representation.specs.LayoutEntries.{linesHeld, cellEntries, Numbered};
+ghost use Rattle.representation.specs.TableEntries.{tableEntries};
+ghost use Rattle.layout.specs.Written.{MoreRoom, MoreIn};
 
 // One cell's entries, from entry `at` on.
 pub fn write_cell(
@@ -31,12 +33,25 @@ pub fn write_cell(
     out[at + 4] = left;
 }
 
-// Each cell's row, column, colspan, rowspan and left column.
-pub fn write_cells(rects: &[u8], n: usize, rows: Bounds, columns: Bounds, out: &mut [u16])
+// Each cell's row, column, colspan and rowspan, and one number more: entry `step * k + from` of an array.
+pub fn write_spans(
+    rects: &[u8],
+    n: usize,
+    rows: Bounds,
+    columns: Bounds,
+    more: &[u8],
+    step: usize,
+    from: usize,
+    out: &mut [u16],
+)
     requires { ⌜ (n ≤ 1024) × (4 * n ≤ length (now rects)) × (5 * n ≤ length (now out)) ⌝ }
     requires { ⌜ (length (rows .index) ≡ 128) × (length (columns .index) ≡ 128) ⌝ }
     requires { ⌜ ((r : Rect) → List·Memᴰ r (rectsOf n (now rects)) → Numbered rows columns r) ⌝ }
-    ensures { λ _. ⌜ now (out .exit) ≡ over (cellEntries (linesHeld rows) (linesHeld columns) (rectsOf n (now (rects .entry)))) (now (out .entry)) ⌝ }
+    requires { ⌜ MoreRoom n (now more) step from ⌝ }
+    ensures { λ _.
+        let rs = rectsOf n (now (rects .entry)) in
+        ⌜ ((f : Rect → ℕ) → MoreIn f (now (rects .entry)) n (now (more .entry)) step from
+        → now (out .exit) ≡ over (tableEntries f (linesHeld rows) (linesHeld columns) rs) (now (out .entry))) ⌝ }
 {
     let mut k = 0;
     while k < n {
@@ -51,10 +66,20 @@ pub fn write_cells(rects: &[u8], n: usize, rows: Bounds, columns: Bounds, out: &
             column as u16,
             (columns.index[right] - column) as u16,
             (rows.index[bottom] - row) as u16,
-            left as u16,
+            more[step * k + from] as u16,
             5 * k,
             out,
         );
         k += 1;
     }
+}
+
+// Each cell's row, column, colspan, rowspan and left column.
+pub fn write_cells(rects: &[u8], n: usize, rows: Bounds, columns: Bounds, out: &mut [u16])
+    requires { ⌜ (n ≤ 1024) × (4 * n ≤ length (now rects)) × (5 * n ≤ length (now out)) ⌝ }
+    requires { ⌜ (length (rows .index) ≡ 128) × (length (columns .index) ≡ 128) ⌝ }
+    requires { ⌜ ((r : Rect) → List·Memᴰ r (rectsOf n (now rects)) → Numbered rows columns r) ⌝ }
+    ensures { λ _. ⌜ now (out .exit) ≡ over (cellEntries (linesHeld rows) (linesHeld columns) (rectsOf n (now (rects .entry)))) (now (out .entry)) ⌝ }
+{
+    write_spans(rects, n, rows, columns, rects, 4, 1, out);
 }

@@ -94,9 +94,6 @@ module _ (rects : List ℕ) (n k : ℕ) (all : AllInside rects n) (h : k < n) wh
   pub left-small : getD rects (4 * k + 1) 0 < 128
   left-small = omega (arith, within .across, within .wide)
 
-  pub left-fits : Fits w16 (getD rects (4 * k + 1) 0)
-  left-fits = record { fits = omega (arith, left-small) }
-
   pub bottom-small : getD rects (4 * k + 2) 0 < 128
   bottom-small = within .tall
 

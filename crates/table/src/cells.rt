@@ -1,7 +1,7 @@
 // Writes the entries of a table's cells.
-use layout::cell_entries::write_cell;
+use layout::cell_entries::write_spans;
 use representation::Bounds;
-ghost use Prim.Native.Nat.{ℕ, _*_, _-_, _≤_};
+ghost use Prim.Native.Nat.{ℕ, _*_, _≤_};
 ghost use mathlib.Core.Path.{_≡_};
 ghost use mathlib.Core.List.{List·Memᴰ};
 ghost use lib.ListN.{length};
@@ -29,23 +29,5 @@ pub fn write_table_cells(
         ⌜ ((f : Rect → ℕ) → CountedBy f rs (now (counts .entry))
         → now (out .exit) ≡ over (tableEntries f (linesHeld rows) (linesHeld columns) rs) (now (out .entry))) ⌝ }
 {
-    let mut k = 0;
-    while k < n {
-        let top = rects[4 * k] as usize;
-        let left = rects[4 * k + 1] as usize;
-        let bottom = rects[4 * k + 2] as usize;
-        let right = rects[4 * k + 3] as usize;
-        let row = rows.index[top];
-        let column = columns.index[left];
-        write_cell(
-            row as u16,
-            column as u16,
-            (columns.index[right] - column) as u16,
-            (rows.index[bottom] - row) as u16,
-            counts[k] as u16,
-            5 * k,
-            out,
-        );
-        k += 1;
-    }
+    write_spans(rects, n, rows, columns, counts, 1, 0, out);
 }

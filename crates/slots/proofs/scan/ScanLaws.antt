@@ -204,9 +204,9 @@ module _ (line : List ℕ) (first at : ℕ) (glyphs₀ offsets₀ glyphs offsets
 
     module _ (t : Bool) (stands : not t ≡ false) where
       -- a letter, or a mark, which takes no slot
-      pub next-two : Whole line byte 2 t → 0x80 ≤ a → a < 0xe0 → (count : ℕ) → (a < 0xcc → count ≡ 1) → (0xcc ≤ a → count ≡ 0) → (glyphs′ offsets′ : List ℕ)
+      pub next-two : Whole line byte 2 t → 0x80 ≤ a → a < 0xe0 → (count : ℕ) → (0xcc ≤ a → count ≡ 0) → (a < 0xcc → count ≡ 1) → (glyphs′ offsets′ : List ℕ)
           → PutWithin at n count a byte glyphs offsets glyphs′ offsets′ → ScanSoFar line first at glyphs₀ offsets₀ glyphs′ offsets′ (byte + 2) (n + count)
-      next-two w high below count one none glyphs′ offsets′ put =
+      next-two w high below count none one glyphs′ offsets′ put =
           ⊎-elim (λ (h : 0xcc ≤ a). scan-next (rw (none h) (first-mark line byte (first + n) a here t stands w high h below)) glyphs′ offsets′ room room′ put)
           (λ (h : a < 0xcc). scan-next (rw (one h) (first-narrow line byte (first + n) a here t stands w high h)) glyphs′ offsets′ room room′ put)
           (le-or-lt 0xcc a)

@@ -138,7 +138,7 @@ loop-again-3 c =
     let columns = two put in
     let read = looping-two columns in
     let rooms = entry read .pre in
-    next-two _ _ _ _ _ _ _ _ _ (turn read .loop .inv) (rooms .2) (rooms .3) _ (read .widened .ensures) _ (columns .before .if5 .left) (columns .before .before .is-two .ensures) (past-ascii columns .if2 .left) (columns .before .before .before .if4 .taken) _ (columns .columns-of-two .ensures .1) (columns .columns-of-two .ensures .2) _ _ (put .put-within3 .ensures)
+    next-two _ _ _ _ _ _ _ _ _ (turn read .loop .inv) (rooms .2) (rooms .3) _ (read .widened .ensures) _ (columns .before .if5 .left) (columns .before .before .is-two .ensures) (past-ascii columns .if2 .left) (columns .before .before .before .if4 .taken) _ (columns .columns-of-two .ensures .2) (columns .columns-of-two .ensures .1) _ _ (put .put-within3 .ensures)
 
 is-three-requires : tie.Need-is-three-requires Inv-loop μ-loop
 is-three-requires c κs = search needs

@@ -6,7 +6,7 @@ use mathlib.Core.List.{List}
 use lib.Dec.{ltb}
 use lib.ListN.{length, getD, take, drop, replicate}
 use Rattle.text.specs.declared.Column.{Column}
-use Rattle.text.specs.Utf8.{charIndices, wellFormed, plain}
+use Rattle.text.specs.Utf8.{charsFrom, charIndices, wellFrom, wellFormed, plain}
 use Rattle.text.specs.Trim.{trimEnd}
 use Rattle.grid.specs.Values.{Line, noLine}
 use Rattle.grid.specs.Slots.{Slot, glyphOf, slotsFrom}
@@ -28,6 +28,13 @@ pub record PutWithin (at n count value byte : ℕ) (glyphs offsets glyphs′ off
   pub offsetsBefore : take at offsets′ ≡ take at offsets
   pub glyphsPut : n + count ≤ 128 → glyphs′ ≡ replaced glyphs (at + n) (replicate count (glyphCode (glyphOf false value)))
   pub offsetsPut : n + count ≤ 128 → offsets′ ≡ replaced offsets (at + n) (replicate count byte)
+
+-- the characters between two bytes of a line are in the set and take no slot
+pub record MarksPassed (line : List ℕ) (from to : ℕ) : Type 0 where
+  pub forward : from ≤ to
+  pub inLine : to ≤ length line
+  pub well : wellFrom 0 (drop from line) ≡ wellFrom 0 (drop to line)
+  pub slotless : (column : ℕ) → slotsFrom false column (charsFrom from 0 (drop from line)) ≡ slotsFrom false column (charsFrom to 0 (drop to line))
 
 -- a line's slots in the arrays, unless there are more than 128
 pub record LineLeft (slots : List Slot) (at : ℕ) (glyphs offsets : List ℕ) : Type 0 where

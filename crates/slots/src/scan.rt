@@ -9,12 +9,15 @@ use rule_lines::trim::trim_end;
 use text::ByteAt;
 use text::Column;
 use utf8::line_text::is_plain;
+use utf8::several::is_mark;
 use utf8::several::is_three;
 use utf8::several::is_two;
 ghost use Prim.Native.Nat.{_+_, _≤_, _<_};
 ghost use mathlib.Core.Path.{_≡_};
+ghost use mathlib.Core.Bool.{true};
 ghost use lib.ListN.{length};
-ghost use Rattle.slots.specs.Scan.{PutWithin, LineScanned, clipped as clippedOf, ScanRoom, NextScanned};
+ghost use Rattle.text.specs.Utf8.{plain};
+ghost use Rattle.slots.specs.Scan.{PutWithin, MarksPassed, LineScanned, clipped as clippedOf, ScanRoom, NextScanned};
 
 // Stands for the number of columns of a plain line, which has a slot for each byte.
 pub const PLAIN: u8 = 255;
@@ -45,11 +48,19 @@ fn put_within(
     }
 }
 
-// The columns of a character of the set of two bytes, by the first of them: from CC on they are marks.
-fn columns_of_two(a: u32) -> usize
-    ensures { λ r. ⌜ (r ≤ 1) × (a < 0xcc → r ≡ 1) × (0xcc ≤ a → r ≡ 0) ⌝ }
+// Past the marks that follow the one at a byte: they take no slots, and there may be many.
+fn marks_end(line: &[u8], at: ByteAt) -> ByteAt
+    requires { ⌜ (at .0 + 2 ≤ length (now line)) × (length (now line) ≤ 512) ⌝ }
+    ensures { λ r. ⌜ MarksPassed (now (line .entry)) (at .0 + 2) (r .0) ⌝ }
 {
-    if a < 0xcc { 1 } else { 0 }
+    let mut byte = at.0 + 2;
+    while byte < line.len() {
+        if !is_mark(line, ByteAt(byte)) {
+            return ByteAt(byte);
+        }
+        byte += 2;
+    }
+    ByteAt(byte)
 }
 
 // The columns of a trimmed line, whose slots go to the arrays from index `at` on as far as there are 128. Past
@@ -84,14 +95,18 @@ fn scan_line(
             put_within(glyphs, offsets, at, Column(n), count, a, ByteAt(byte));
             byte += 1;
             n += count;
+        } else if a < 0xcc {
+            if !is_two(line, ByteAt(byte)) {
+                return Scanned::Outside;
+            }
+            put_within(glyphs, offsets, at, Column(n), 1, a, ByteAt(byte));
+            byte += 2;
+            n += 1;
         } else if a < 0xe0 {
             if !is_two(line, ByteAt(byte)) {
                 return Scanned::Outside;
             }
-            let count = columns_of_two(a);
-            put_within(glyphs, offsets, at, Column(n), count, a, ByteAt(byte));
-            byte += 2;
-            n += count;
+            byte = marks_end(line, ByteAt(byte)).0;
         } else {
             if !is_three(line, ByteAt(byte)) {
                 return Scanned::Outside;
@@ -112,22 +127,34 @@ fn clipped(columns: Column) -> u8
     if STRIDE < n { 129 } else { n as u8 }
 }
 
-// Is line y UTF-8 of the set? What is known of it afterwards goes to the arrays: its slots unless it is
-// plain, and to `counts` how many there are.
+// Is a line plain? It is not looked at where that is known.
+fn is_plain_line(text: &[u8], known: bool) -> bool
+    requires { ⌜ (known ≡ true → plain (now text) ≡ true) ⌝ }
+    ensures { λ r. ⌜ r ≡ plain (now (text .entry)) ⌝ }
+{
+    if known {
+        return true;
+    }
+    is_plain(text)
+}
+
+// Is line y, which may be known to be plain, UTF-8 of the set? What is known of it afterwards goes to the
+// arrays: its slots unless it is plain, and to `counts` how many there are.
 pub fn scan_next(
     text: &[u8],
+    known: bool,
     column: Column,
     y: usize,
     glyphs: &mut [u8],
     offsets: &mut [u16],
     counts: &mut [u8],
 ) -> bool
-    requires { ⌜ ScanRoom (now text) (column .0) y (now glyphs) (now offsets) (now counts) ⌝ }
+    requires { ⌜ (known ≡ true → plain (now text) ≡ true) × ScanRoom (now text) (column .0) y (now glyphs) (now offsets) (now counts) ⌝ }
     ensures { λ r.
         ⌜ NextScanned (now (text .entry)) (column .0) y
         (now (glyphs .entry)) (now (offsets .entry)) (now (counts .entry)) (now (glyphs .exit)) (now (offsets .exit)) (now (counts .exit)) r ⌝ }
 {
-    if is_plain(text) {
+    if is_plain_line(text, known) {
         counts[y] = PLAIN;
         return true;
     }

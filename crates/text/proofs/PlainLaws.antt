@@ -5,10 +5,11 @@ use mathlib.Core.Bool.{Bool, true, _&&_}
 use mathlib.Core.List.{List, [], _∷_}
 use native.Mathlib.Omega.{arith}
 use lib.ListN.{length, take, drop, getD}
+use lib.Seq.{take-add, take-take}
 use Rattle.seq.proofs.Tests.{both-true, and-intro}
 use Rattle.seq.specs.Lists.{within, all}
 use Rattle.seq.proofs.ListsLaws.{within-low, within-high}
-use Rattle.seq.proofs.Walks.{all-next, all-ends}
+use Rattle.seq.proofs.Walks.{all-append, all-next, all-ends}
 use Rattle.text.specs.declared.Decoded.the-variants.{Character}
 use Rattle.text.specs.Utf8.{character, wellFrom, wellFormed, plain}
 use Rattle.text.specs.Characters.{columnsOf, span}
@@ -57,6 +58,18 @@ pub plain-drop : (n : ℕ) (s : List ℕ) → plain s ≡ true → plain (drop n
 plain-drop zero s e = e
 plain-drop (suc n) [] e = e
 plain-drop (suc n) (b ∷ bs) e = plain-drop n bs (plain-rest b bs e)
+
+plain-split : (s : List ℕ) (n k : ℕ) → plain (take (n + k) s) ≡ (plain (take n s) && plain (take k (drop n s)))
+unfolding plain
+plain-split s n k = ap (all (λ b. within 0x20 0x7e b)) (take-add n k s) ∙ all-append (λ b. within 0x20 0x7e b) (take n s) (take k (drop n s))
+
+module _ (s : List ℕ) (n : ℕ) (front : plain (take n s) ≡ true) where
+  pub plain-more : (k : ℕ) (t : Bool) → t ≡ plain (take k (drop n s)) → t ≡ true → plain (take (n + k) s) ≡ true
+  plain-more k t is taken = plain-split s n k ∙ and-intro front (sym is ∙ taken)
+
+  pub plain-part : (at k : ℕ) → at + k ≤ n → plain (take k (drop at s)) ≡ true
+  plain-part at k inside =
+      both-true (plain (take at s)) (plain (take k (drop at s))) (sym (plain-split s at k) ∙ ap plain (sym (take-take (at + k) n s inside)) ∙ plain-take (at + k) (take n s) front) .1
 
 -- ---- it is well formed
 plain-from : (s : List ℕ) → plain s ≡ true → wellFrom 0 s ≡ true

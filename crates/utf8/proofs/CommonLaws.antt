@@ -52,10 +52,13 @@ module _ (s : List ℕ) (at a : ℕ) (here : a ≡ getD s at 0) where
         (sym (within-in 0xae 0x17f (twoBytes a b) (omega (arith, second, low, high)) (omega (arith, second, low, high))))
         (or-last (within 0x300 0x36f (twoBytes a b)) (within 0xa1 0xac (twoBytes a b)))
 
+    pub mark-of-two : 0xcc ≤ a → a ≤ 0xdf → twoBytes a b ≤ 0x36f → Sized s at 2
+    mark-of-two low high few =
+        of-two true (within 0xa1 0xac (twoBytes a b)) (within 0xae 0x17f (twoBytes a b)) (omega arith) high
+        (sym (within-in 0x300 0x36f (twoBytes a b) (omega (arith, second, low)) few)) refl refl refl
+
     pub common-mark : a ≡ 0xcc → Sized s at 2
-    common-mark e =
-        of-two true (within 0xa1 0xac (twoBytes a b)) (within 0xae 0x17f (twoBytes a b)) (omega arith) (omega arith)
-        (sym (within-in 0x300 0x36f (twoBytes a b) (omega (arith, second, e)) (omega (arith, second, e)))) refl refl refl
+    common-mark e = mark-of-two (omega arith) (omega arith) (omega (arith, second, e))
 
     module _ (u : Bool) (last : u ≡ continues (getD s (at + 2) 0)) (ends : u ≡ true) where
       abbrev c : ℕ

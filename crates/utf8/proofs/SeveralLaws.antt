@@ -1,5 +1,5 @@
 -- Whether a character of several bytes stands at a place: by its first byte, or by the decoded value.
-use Prim.Native.Nat.{ℕ, _+_, _≤_, _<_}
+use Prim.Native.Nat.{ℕ, _+_, _*_, _≤_, _<_}
 use mathlib.Core.Path.{_≡_, refl, sym, ap, _∙_}
 use mathlib.Core.Bool.{Bool, true, false, _&&_}
 use mathlib.Core.List.{List}
@@ -14,9 +14,10 @@ use Rattle.text.specs.declared.Decoded.the-variants.{Refused}
 use Rattle.text.specs.Characters.{inSet}
 use Rattle.text.specs.Utf8.{continues, twoBytes, threeBytes, characterIf, fromTwo, fromThree, character}
 use Rattle.text.proofs.Utf8Laws.{character-two, character-three, character-none}
+use Rattle.text.proofs.KnownLaws.{between}
 use Rattle.utf8.specs.Common.{Sized}
-use Rattle.utf8.specs.Several.{isCharacter, Whole}
-use Rattle.utf8.proofs.CommonLaws.{common-narrow, common-mark, common-han}
+use Rattle.utf8.specs.Several.{isCharacter, Whole, MarkAt}
+use Rattle.utf8.proofs.CommonLaws.{common-narrow, mark-of-two, common-mark, common-han}
 
 -- ---- what is decoded has so many bytes, or is refused
 decoded-whole : (s : List ℕ) (at size value : ℕ) (t : Bool) (d : Decoded) → d ≡ characterIf t value size → d ≡ character (drop at s) → (r : Bool) → r ≡ isCharacter d → Whole s at size r
@@ -49,6 +50,14 @@ module _ (s : List ℕ) (at a : ℕ) (here : a ≡ getD s at 0) where
         let range : true ≡ within 0xc0 0xdf a = sym (within-in 0xc0 0xdf a low (omega arith)) in
         decoded-whole s at 2 (twoBytes a b) (continues b && (leb 0x80 (twoBytes a b) && inSet (twoBytes a b))) d is
         (character-two s at a b true here then (omega arith) range d refl is) r told
+
+    pub mark-at : (t u : Bool) → t ≡ continues b → u ≡ within 0x3380 0x33ef (a * 64 + b) → t && u ≡ true → MarkAt s at
+    mark-at t u more is both =
+        let (goes-on, inside) = both-true t u both in
+        let second = between 0x80 0xbf b (sym more ∙ goes-on) in
+        let sum = between 0x3380 0x33ef (a * 64 + b) (sym is ∙ inside) in
+        let sized = mark-of-two s at a here t (rw then at more) goes-on (omega arith) (omega arith) (omega (arith, then)) in
+        record { mark = sized-whole s at 2 sized (λ z. omega arith); low = omega (arith, here); high = omega (arith, here) }
 
     module _ (t : Bool) (more : t ≡ continues b) (goes-on : t ≡ true) where
       pub two-narrow : (w : Bool) → w ≡ within 0xc3 0xc5 a → w ≡ true → Whole s at 2 true

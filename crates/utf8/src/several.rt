@@ -8,8 +8,9 @@ use text::ByteAt;
 use text::Decoded;
 ghost use Prim.Native.Nat.{_≤_, _<_};
 ghost use mathlib.Core.Path.{_≡_};
+ghost use mathlib.Core.Bool.{true};
 ghost use lib.ListN.{length, getD};
-ghost use Rattle.utf8.specs.Several.{isCharacter, Whole};
+ghost use Rattle.utf8.specs.Several.{isCharacter, Whole, MarkAt};
 
 fn is_character(decoded: Decoded) -> bool
     ensures { λ r. ⌜ r ≡ isCharacter decoded ⌝ }
@@ -18,6 +19,18 @@ fn is_character(decoded: Decoded) -> bool
         Decoded::Character { value: _, size: _ } => true,
         Decoded::Refused => false,
     }
+}
+
+// Is the character at a place a mark? It is not put together: of two bytes that stand so, 64 times the first and
+// the second are from 3380 to 33EF for 300 to 36F.
+pub fn is_mark(line: &[u8], at: ByteAt) -> bool
+    requires { ⌜ at .0 < length (now line) ⌝ }
+    ensures { λ r. ⌜ (r ≡ true → MarkAt (now (line .entry)) (at .0)) ⌝ }
+{
+    let at = at.0;
+    let a = byte_or_zero(line, at) as u32;
+    let b = byte_or_zero(line, at + 1) as u32;
+    is_continuation(b) & within(0x3380, 0x33ef, a * 64 + b)
 }
 
 // Is the character at a place, whose first byte is from 80 to DF, one of the set? C0 to 17F and 300 to

@@ -3,16 +3,16 @@ use Prim.Native.Nat.{ℕ, _+_, _-_, _≤_, _<_}
 use mathlib.Core.Path.{_≡_, refl, sym, _∙_}
 use mathlib.Core.Bool.{Bool, true, false, not, cond}
 use mathlib.Core.Option.{none, some}
-use mathlib.Core.List.{List, [], _∷_}
+use mathlib.Core.List.{List}
 use native.Mathlib.Omega.{arith}
 use lib.Dec.{eqb}
 use lib.ListN.{length, take, drop, getD, drop-of-length-le}
 use lib.Seq.{drop-drop}
-use borrow.Author.Tests.{ne-eqb}
-use Rattle.seq.specs.Lists.{sum, firstAt}
+use borrow.Author.Tests.{ne-eqb, not-false}
+use Rattle.seq.specs.Lists.{sum, all, firstAt}
 use Rattle.seq.proofs.ListsLaws.{drop-step}
 use Rattle.text.specs.Utf8.{wellFormed, plain}
-use Rattle.text.proofs.PlainLaws.{plain-take, plain-drop, plain-well}
+use Rattle.text.proofs.PlainLaws.{plain-more}
 use Rattle.grid.specs.Flat.{splitText}
 use Rattle.seq.proofs.Walks.{eqb-same, sum-after, sum-end}
 
@@ -57,10 +57,14 @@ module _ (lengths text : List ℕ) (at y : ℕ)
   unfolding splitText firstAt
   none-outside h = rw (passed, drop-of-length-le lengths h)
 
--- ---- a text that is plain has no line outside
-pub plain-inside : (lengths text : List ℕ) (y : ℕ) → plain text ≡ true → none ≡ firstAt (λ line. not (wellFormed line)) y (splitText lengths text)
-unfolding splitText firstAt
-plain-inside [] text y e = refl
-plain-inside (n ∷ ns) text y e =
-    let well = plain-well (take n text) true (sym (plain-take n text e)) refl in
-    rw (← well) (plain-inside ns (drop n text) (y + 1) (plain-drop n text e))
+-- ---- bytes from the start on that are plain: none, and a part more
+pub plain-none : (text : List ℕ) → plain (take 0 text) ≡ true
+unfolding plain all
+plain-none text = refl
+
+module _ (text : List ℕ) (n end : ℕ) (inside : n ≤ end) (front : plain (take n text) ≡ true) (t : Bool) (is : t ≡ plain (take (end - n) (drop n text))) where
+  pub plain-to : t ≡ true → plain (take end text) ≡ true
+  plain-to taken = let e : n + (end - n) ≡ end = omega arith in rw e at (plain-more text n front (end - n) t is taken)
+
+  pub plain-block : not t ≡ false → plain (take end text) ≡ true
+  plain-block stands = plain-to (not-false t stands)

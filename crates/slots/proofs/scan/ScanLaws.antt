@@ -20,11 +20,11 @@ use Rattle.text.proofs.CharactersLaws.{ascii-in-set, ascii-one-column, span-oth
 use Rattle.text.proofs.Utf8Laws.{character-one, character-past-ascii, of-bytes, chars-next, well-next, well-not, size-fits}
 use Rattle.text.proofs.KnownLaws.{between}
 use Rattle.text.proofs.ByteColumnsLaws.{adds-one, adds-mark, adds-two, byteColumns-span}
-use Rattle.utf8.specs.Several.{Whole}
+use Rattle.utf8.specs.Several.{Whole, MarkAt}
 use Rattle.grid.specs.Slots.{Slot, glyphOf, slotsFrom}
 use Rattle.representation.specs.Arrays.{glyphCode, glyphCodes, slotBytes}
 use Rattle.slots.specs.Replaced.{replaced}
-use Rattle.slots.specs.Scan.{scannedSlots, PutWithin, LineScanned}
+use Rattle.slots.specs.Scan.{scannedSlots, PutWithin, MarksPassed, LineScanned}
 use Rattle.slots.specs.declared.scan.Scanned.{Scanned}
 use Rattle.slots.specs.declared.scan.Scanned.the-variants.{Columns, Outside}
 use Rattle.slots.proofs.glyphs.ReplaceLaws.{replaced-none, replaced-more, part-replaced}
@@ -160,6 +160,37 @@ module _ (line : List ℕ) (byte column a : ℕ) (here : a ≡ getD line byte 0)
     first-wide : Whole line byte 3 t → 0xe0 ≤ a → First line byte column a 3 2
     first-wide w low = let (v, is) = w .whole (not-false t stands) in several v 3 (omega arith) is (omega arith) 2 (adds-two a low)
 
+-- ---- marks
+module _ (line : List ℕ) (byte : ℕ) (m : MarkAt line byte) where
+  first-of-mark : (column : ℕ) → First line byte column (getD line byte 0) 2 0
+  first-of-mark column = first-mark line byte column (getD line byte 0) refl true refl (m .mark) (omega (arith, m .low)) (m .low) (m .high)
+
+  mark-passed : MarksPassed line byte (byte + 2)
+  unfolding slotsFrom
+  mark-passed =
+      let f = first-of-mark 0 in
+      record {
+        forward = omega arith;
+        inLine = size-fits line byte (f .value) 2 (f .is) .1;
+        well = well-next line byte (f .value) 2 (f .is);
+        slotless = λ column. let g = first-of-mark column in rw (chars-next line byte (g .value) 2 (g .is), ← g .spans, add-zero column);
+      }
+
+pub none-passed : (line : List ℕ) (at : ℕ) → at ≤ length line → MarksPassed line at at
+none-passed line at inside = record { forward = omega arith; inLine = inside; well = refl; slotless = λ column. refl }
+
+passed-on : (line : List ℕ) (at byte end : ℕ) → MarksPassed line at byte → MarksPassed line byte end → MarksPassed line at end
+passed-on line at byte end p q =
+    record {
+      forward = omega (arith, p .forward, q .forward);
+      inLine = q .inLine;
+      well = p .well ∙ q .well;
+      slotless = λ column. p .slotless column ∙ q .slotless column;
+    }
+
+pub passed-next : (line : List ℕ) (at byte : ℕ) → MarksPassed line at byte → (t : Bool) → (t ≡ true → MarkAt line byte) → not t ≡ false → MarksPassed line at (byte + 2)
+passed-next line at byte p t mark stands = passed-on line at byte (byte + 2) p (mark-passed line byte (mark (not-false t stands)))
+
 module _ (line : List ℕ) (first at : ℕ) (glyphs₀ offsets₀ glyphs offsets : List ℕ) (byte n : ℕ) (so-far : ScanSoFar line first at glyphs₀ offsets₀ glyphs offsets byte n) where
   -- ---- a character more
   module _ {a size count : ℕ} (f : First line byte (first + n) a size count) where
@@ -203,17 +234,39 @@ module _ (line : List ℕ) (first at : ℕ) (glyphs₀ offsets₀ glyphs offsets
         scan-next (first-ascii line byte (first + n) a here t count low told stands spans) glyphs′ offsets′ room room′ put
 
     module _ (t : Bool) (stands : not t ≡ false) where
-      -- a letter, or a mark, which takes no slot
-      pub next-two : Whole line byte 2 t → 0x80 ≤ a → a < 0xe0 → (count : ℕ) → (0xcc ≤ a → count ≡ 0) → (a < 0xcc → count ≡ 1) → (glyphs′ offsets′ : List ℕ)
-          → PutWithin at n count a byte glyphs offsets glyphs′ offsets′ → ScanSoFar line first at glyphs₀ offsets₀ glyphs′ offsets′ (byte + 2) (n + count)
-      next-two w high below count none one glyphs′ offsets′ put =
-          ⊎-elim (λ (h : 0xcc ≤ a). scan-next (rw (none h) (first-mark line byte (first + n) a here t stands w high h below)) glyphs′ offsets′ room room′ put)
-          (λ (h : a < 0xcc). scan-next (rw (one h) (first-narrow line byte (first + n) a here t stands w high h)) glyphs′ offsets′ room room′ put)
-          (le-or-lt 0xcc a)
+      pub next-narrow : Whole line byte 2 t → 0x80 ≤ a → a < 0xcc → (glyphs′ offsets′ : List ℕ) → PutWithin at n 1 a byte glyphs offsets glyphs′ offsets′
+          → ScanSoFar line first at glyphs₀ offsets₀ glyphs′ offsets′ (byte + 2) (n + 1)
+      next-narrow w high low glyphs′ offsets′ put = scan-next (first-narrow line byte (first + n) a here t stands w high low) glyphs′ offsets′ room room′ put
 
       pub next-wide : Whole line byte 3 t → 0xe0 ≤ a → (glyphs′ offsets′ : List ℕ) → PutWithin at n 2 a byte glyphs offsets glyphs′ offsets′
           → ScanSoFar line first at glyphs₀ offsets₀ glyphs′ offsets′ (byte + 3) (n + 2)
       next-wide w low glyphs′ offsets′ put = scan-next (first-wide line byte (first + n) a here t stands w low) glyphs′ offsets′ room room′ put
+
+  scan-passed : (end : ℕ) → MarksPassed line byte end → ScanSoFar line first at glyphs₀ offsets₀ glyphs offsets end n
+  scan-passed end p =
+      record {
+        inLine = p .inLine;
+        well = so-far .well ∙ p .well;
+        few = omega (arith, so-far .few, p .forward);
+        inside = so-far .inside;
+        left = so-far .left ∙ p .slotless (first + n);
+        glyphsKept = so-far .glyphsKept;
+        offsetsKept = so-far .offsetsKept;
+        glyphsBefore = so-far .glyphsBefore;
+        offsetsBefore = so-far .offsetsBefore;
+        glyphsHold = so-far .glyphsHold;
+        offsetsHold = so-far .offsetsHold;
+      }
+
+  pub marks-room : {size : ℕ} (t : Bool) → not t ≡ false → Whole line byte size t → byte + size ≤ length line
+  marks-room {size} t stands w = let (v, is) = w .whole (not-false t stands) in size-fits line byte v size is .1
+
+  -- a mark, and those that follow it
+  pub next-marks : (a : ℕ) → a ≡ getD line byte 0 → (t : Bool) → not t ≡ false → Whole line byte 2 t → 0xcc ≤ a → a < 0xe0
+      → (end : ℕ) → MarksPassed line (byte + 2) end → ScanSoFar line first at glyphs₀ offsets₀ glyphs offsets end n
+  next-marks a here t stands w low high end p =
+      let m : MarkAt line byte = record { mark = rw (not-false t stands) at w; low = rw here at low; high = rw here at high } in
+      scan-passed end (passed-on line byte (byte + 2) end (mark-passed line byte m) p)
 
   pub count-fits : (column a count : ℕ) → count ≡ span column a → length line ≤ 512 → n + count < 2 ^ 64
   count-fits column a count spans short = omega (arith, so-far .few, so-far .inLine, spans, span-four-columns-at-most column a)

@@ -67,6 +67,9 @@ clipped-small n e = go (ltb 128 n) refl e where
   go false is e = omega (arith, ltb-false 128 n is)
 
 -- ---- a line
+pub known-plain : (text : List ℕ) (t : Bool) → (t ≡ true → plain text ≡ true) → t ≡ true → true ≡ plain text
+known-plain text t known taken = sym (known taken)
+
 module _ (text : List ℕ) (column y : ℕ) (glyphs offsets counts : List ℕ) (low : y < 128) (room : 128 ≤ length counts) where
   inside : y < length counts
   inside = omega arith

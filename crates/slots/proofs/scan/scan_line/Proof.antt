@@ -2,7 +2,7 @@
 use Prim.Native.Nat.{_-_}
 use borrow.Author.Needs.{needs}
 use lib.ListN.{length}
-use Rattle.slots.proofs.scan.ScanLaws.{ScanSoFar, scan-starts, next-plain, next-ascii, next-two, next-wide, scan-ends, scan-outside, scan-control, inSet-known, span-few, count-fits}
+use Rattle.slots.proofs.scan.ScanLaws.{ScanSoFar, scan-starts, next-plain, next-ascii, next-narrow, marks-room, next-marks, next-wide, scan-ends, scan-outside, scan-control, inSet-known, span-few, count-fits}
 use Rattle.slots.proofs.scan.scan_line.Statement.{statement}
 use Rattle.slots.proofs.scan.scan_line.Tie as tie
 
@@ -105,9 +105,6 @@ same-length-4 c = search needs
 returns-2 : tie.Need-returns-2 Inv-loop μ-loop
 returns-2 c = search scan-outside
 
-columns-of-two-requires : tie.Need-columns-of-two-requires Inv-loop μ-loop
-columns-of-two-requires c κs = search needs
-
 put-within-requires-3 : tie.Need-put-within-requires-3 Inv-loop μ-loop
 put-within-requires-3 c κs = search needs
 
@@ -120,28 +117,28 @@ add-n-3 c = search needs
 loop-less-3 : tie.Need-loop-less-3 Inv-loop μ-loop
 loop-less-3 c = search needs
 
-abbrev put-two : tie.After-slice-known8 Inv-loop μ-loop → tie.After-put-within3 Inv-loop μ-loop
-put-two c = search needs
+abbrev put-letter : tie.After-slice-known8 Inv-loop μ-loop → tie.After-put-within3 Inv-loop μ-loop
+put-letter c = search needs
 
-abbrev two : tie.After-put-within3 Inv-loop μ-loop → tie.After-columns-of-two Inv-loop μ-loop
-two c = search needs
+abbrev letter : tie.After-put-within3 Inv-loop μ-loop → tie.Else5 Inv-loop μ-loop
+letter c = search needs
 
-abbrev looping-two : tie.After-columns-of-two Inv-loop μ-loop → tie.After-widened Inv-loop μ-loop
-looping-two c = search needs
+abbrev looping-letter : tie.Else5 Inv-loop μ-loop → tie.After-widened Inv-loop μ-loop
+looping-letter c = search needs
 
-abbrev past-ascii : tie.After-columns-of-two Inv-loop μ-loop → tie.Else2 Inv-loop μ-loop
+abbrev past-ascii : tie.Else5 Inv-loop μ-loop → tie.Else2 Inv-loop μ-loop
 past-ascii c = search needs
 
 loop-again-3 : tie.Need-loop-again-3 Inv-loop μ-loop
 loop-again-3 c =
-    let put = put-two c in
-    let columns = two put in
-    let read = looping-two columns in
+    let put = put-letter c in
+    let stands = letter put in
+    let read = looping-letter stands in
     let rooms = entry read .pre in
-    next-two _ _ _ _ _ _ _ _ _ (turn read .loop .inv) (rooms .2) (rooms .3) _ (read .widened .ensures) _ (columns .before .if5 .left) (columns .before .before .is-two .ensures) (past-ascii columns .if2 .left) (columns .before .before .before .if4 .taken) _ (columns .columns-of-two .ensures .2) (columns .columns-of-two .ensures .1) _ _ (put .put-within3 .ensures)
+    next-narrow _ _ _ _ _ _ _ _ _ (turn read .loop .inv) (rooms .2) (rooms .3) _ (read .widened .ensures) _ (stands .if5 .left) (stands .before .is-two .ensures) (past-ascii stands .if2 .left) (stands .before .before .if4 .taken) _ _ (put .put-within3 .ensures)
 
-is-three-requires : tie.Need-is-three-requires Inv-loop μ-loop
-is-three-requires c κs = search needs
+is-two-requires-2 : tie.Need-is-two-requires-2 Inv-loop μ-loop
+is-two-requires-2 c κs = search needs
 
 same-length-5 : tie.Need-same-length-5 Inv-loop μ-loop
 same-length-5 c = search needs
@@ -152,6 +149,27 @@ same-length-6 c = search needs
 returns-3 : tie.Need-returns-3 Inv-loop μ-loop
 returns-3 c = search scan-outside
 
+marks-end-requires : tie.Need-marks-end-requires Inv-loop μ-loop
+marks-end-requires c κs = search (needs, marks-room)
+
+loop-less-4 : tie.Need-loop-less-4 Inv-loop μ-loop
+loop-less-4 c = search needs
+
+loop-again-4 : tie.Need-loop-again-4 Inv-loop μ-loop
+loop-again-4 c = search next-marks
+
+is-three-requires : tie.Need-is-three-requires Inv-loop μ-loop
+is-three-requires c κs = search needs
+
+same-length-7 : tie.Need-same-length-7 Inv-loop μ-loop
+same-length-7 c = search needs
+
+same-length-8 : tie.Need-same-length-8 Inv-loop μ-loop
+same-length-8 c = search needs
+
+returns-4 : tie.Need-returns-4 Inv-loop μ-loop
+returns-4 c = search scan-outside
+
 put-within-requires-4 : tie.Need-put-within-requires-4 Inv-loop μ-loop
 put-within-requires-4 c κs = search needs
 
@@ -161,34 +179,34 @@ add-byte-4 c = search needs
 add-n-4 : tie.Need-add-n-4 Inv-loop μ-loop
 add-n-4 c = search needs
 
-loop-less-4 : tie.Need-loop-less-4 Inv-loop μ-loop
-loop-less-4 c = search needs
+loop-less-5 : tie.Need-loop-less-5 Inv-loop μ-loop
+loop-less-5 c = search needs
 
 abbrev put-wide : tie.After-slice-known10 Inv-loop μ-loop → tie.After-put-within4 Inv-loop μ-loop
 put-wide c = search needs
 
-abbrev wide : tie.After-put-within4 Inv-loop μ-loop → tie.Else6 Inv-loop μ-loop
+abbrev wide : tie.After-put-within4 Inv-loop μ-loop → tie.Else8 Inv-loop μ-loop
 wide c = search needs
 
-abbrev looping-wide : tie.Else6 Inv-loop μ-loop → tie.After-widened Inv-loop μ-loop
+abbrev looping-wide : tie.Else8 Inv-loop μ-loop → tie.After-widened Inv-loop μ-loop
 looping-wide c = search needs
 
-loop-again-4 : tie.Need-loop-again-4 Inv-loop μ-loop
-loop-again-4 c =
+loop-again-5 : tie.Need-loop-again-5 Inv-loop μ-loop
+loop-again-5 c =
     let put = put-wide c in
     let stands = wide put in
     let read = looping-wide stands in
     let rooms = entry read .pre in
-    next-wide _ _ _ _ _ _ _ _ _ (turn read .loop .inv) (rooms .2) (rooms .3) _ (read .widened .ensures) _ (stands .if6 .left) (stands .before .is-three .ensures) (stands .before .before .if4 .left) _ _ (put .put-within4 .ensures)
+    next-wide _ _ _ _ _ _ _ _ _ (turn read .loop .inv) (rooms .2) (rooms .3) _ (read .widened .ensures) _ (stands .if8 .left) (stands .before .is-three .ensures) (stands .before .before .if6 .left) _ _ (put .put-within4 .ensures)
 
-same-length-7 : tie.Need-same-length-7 Inv-loop μ-loop
-same-length-7 c = search needs
+same-length-9 : tie.Need-same-length-9 Inv-loop μ-loop
+same-length-9 c = search needs
 
-same-length-8 : tie.Need-same-length-8 Inv-loop μ-loop
-same-length-8 c = search needs
+same-length-10 : tie.Need-same-length-10 Inv-loop μ-loop
+same-length-10 c = search needs
 
-returns-4 : tie.Need-returns-4 Inv-loop μ-loop
-returns-4 c = search scan-ends
+returns-5 : tie.Need-returns-5 Inv-loop μ-loop
+returns-5 c = search scan-ends
 
 pub scan-line-spec : {M : Type 1} → statement M
 scan-line-spec =
@@ -220,21 +238,27 @@ scan-line-spec =
     same-length-3
     same-length-4
     returns-2
-    columns-of-two-requires
     put-within-requires-3
     add-byte-3
     add-n-3
     loop-less-3
     loop-again-3
-    is-three-requires
+    is-two-requires-2
     same-length-5
     same-length-6
     returns-3
+    marks-end-requires
+    loop-less-4
+    loop-again-4
+    is-three-requires
+    same-length-7
+    same-length-8
+    returns-4
     put-within-requires-4
     add-byte-4
     add-n-4
-    loop-less-4
-    loop-again-4
-    same-length-7
-    same-length-8
-    returns-4)
+    loop-less-5
+    loop-again-5
+    same-length-9
+    same-length-10
+    returns-5)

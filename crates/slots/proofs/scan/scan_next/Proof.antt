@@ -4,8 +4,8 @@ use borrow.Author.Needs.{needs}
 use Rattle.slots.proofs.scan.scan_next.Statement.{statement}
 use Rattle.slots.proofs.scan.scan_next.Tie as tie
 
-is-plain-requires : tie.Need-is-plain-requires
-is-plain-requires c κs = search needs
+is-plain-line-requires : tie.Need-is-plain-line-requires
+is-plain-line-requires c κs = search needs
 
 slice-write-counts : tie.Need-slice-write-counts
 slice-write-counts c = search needs
@@ -62,7 +62,7 @@ pub scan-next-spec : {M : Type 1} → statement M
 scan-next-spec =
     tie.close
     (tie.spec
-    is-plain-requires
+    is-plain-line-requires
     slice-write-counts
     same-length
     returns

@@ -10,7 +10,6 @@ use lib.ListN.{length, take, drop, getD, replicate, length-append, length-drop, 
 use lib.Seq.{take-at, drop-at, drop-drop, take-add, take-all, length-take-le, getD-drop}
 use borrow.Author.Tests.{ne-eqb, not-true, not-false}
 use Rattle.seq.specs.Lists.{within}
-use Rattle.seq.proofs.Tests.{le-or-lt}
 use Rattle.seq.proofs.ListsLaws.{within-low}
 use Rattle.text.specs.declared.Decoded.the-variants.{Character, Refused}
 use Rattle.text.specs.Characters.{columnsOf, inSet, span}

@@ -1,4 +1,5 @@
 // Reading's checks 13 and 3, before the slots; the Rust has neither.
+use slots::scan::PLAIN;
 use slots::scan::scan_next;
 use text::Column;
 use utf8::line_text::is_plain;
@@ -13,7 +14,7 @@ ghost use Rattle.text.specs.Utf8.{wellFormed, plain};
 ghost use Rattle.grid.specs.Flat.{drawingContradicts, splitText};
 ghost use Rattle.grid.specs.LayoutCall.{slotSpace, drawing};
 ghost use Rattle.reading.specs.Agreement.{WithinLimits};
-ghost use Rattle.reading.specs.Checks.{placeOf, LinesScanned};
+ghost use Rattle.reading.specs.Checks.{placeOf, PlainNoted, LinesScanned};
 
 // How many bytes are tested at a time.
 const BLOCK: usize = 512;
@@ -77,6 +78,18 @@ pub fn first_outside(lengths: &[u16], text: &[u8]) -> Place
     Place::Nowhere
 }
 
+// Notes that the first lines are plain.
+fn note_plain(lines: usize, counts: &mut [u8])
+    requires { ⌜ lines ≤ length (now counts) ⌝ }
+    ensures { λ _. ⌜ PlainNoted lines (now (counts .exit)) ⌝ }
+{
+    let mut y = 0;
+    while y < lines {
+        counts[y] = PLAIN;
+        y += 1;
+    }
+}
+
 // How many bytes at the start are known to be plain: all of them, or whole blocks.
 fn plain_start(text: &[u8]) -> usize
     ensures { λ r. ⌜ (r ≤ length (now (text .entry))) × (plain (take r (now (text .entry))) ≡ true) ⌝ }
@@ -108,6 +121,10 @@ pub fn scan_lines(
         (now (glyphs .exit)) (now (offsets .exit)) (now (counts .exit)) r ⌝ }
 {
     let known = plain_start(text);
+    if known == text.len() {
+        note_plain(lengths.len(), counts);
+        return Place::Nowhere;
+    }
     let mut at = 0;
     let mut y = 0;
     while y < lengths.len() {

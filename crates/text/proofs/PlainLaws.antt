@@ -54,6 +54,11 @@ plain-take (suc n) [] e = refl
 plain-take (suc n) (b ∷ bs) e =
     let both = both-true (within 0x20 0x7e b) (plain bs) e in and-intro (both .0) (plain-take n bs (both .1))
 
+pub plain-drop : (n : ℕ) (s : List ℕ) → plain s ≡ true → plain (drop n s) ≡ true
+plain-drop zero s e = e
+plain-drop (suc n) [] e = e
+plain-drop (suc n) (b ∷ bs) e = plain-drop n bs (plain-rest b bs e)
+
 plain-split : (s : List ℕ) (n k : ℕ) → plain (take (n + k) s) ≡ (plain (take n s) && plain (take k (drop n s)))
 unfolding plain
 plain-split s n k = ap (all (λ b. within 0x20 0x7e b)) (take-add n k s) ∙ all-append (λ b. within 0x20 0x7e b) (take n s) (take k (drop n s))

@@ -3,7 +3,7 @@ use Prim.Native.Nat.{ℕ, _+_, _-_, _≤_, _<_}
 use mathlib.Core.Path.{_≡_, refl, sym, _∙_}
 use mathlib.Core.Bool.{Bool, true, false, not, cond}
 use mathlib.Core.Option.{none, some}
-use mathlib.Core.List.{List}
+use mathlib.Core.List.{List, [], _∷_}
 use native.Mathlib.Omega.{arith}
 use lib.Dec.{eqb}
 use lib.ListN.{length, take, drop, getD, drop-of-length-le}
@@ -12,7 +12,7 @@ use borrow.Author.Tests.{ne-eqb, not-false}
 use Rattle.seq.specs.Lists.{sum, all, firstAt}
 use Rattle.seq.proofs.ListsLaws.{drop-step}
 use Rattle.text.specs.Utf8.{wellFormed, plain}
-use Rattle.text.proofs.PlainLaws.{plain-more}
+use Rattle.text.proofs.PlainLaws.{plain-take, plain-drop, plain-more, plain-well}
 use Rattle.grid.specs.Flat.{splitText}
 use Rattle.seq.proofs.Walks.{eqb-same, sum-after, sum-end}
 
@@ -68,3 +68,11 @@ module _ (text : List ℕ) (n end : ℕ) (inside : n ≤ end) (front : plain (ta
 
   pub plain-block : not t ≡ false → plain (take end text) ≡ true
   plain-block stands = plain-to (not-false t stands)
+
+-- ---- a text that is plain has no line outside
+pub plain-inside : (lengths text : List ℕ) (y : ℕ) → plain text ≡ true → none ≡ firstAt (λ line. not (wellFormed line)) y (splitText lengths text)
+unfolding splitText firstAt
+plain-inside [] text y e = refl
+plain-inside (n ∷ ns) text y e =
+    let well = plain-well (take n text) true (sym (plain-take n text e)) refl in
+    rw (← well) (plain-inside ns (drop n text) (y + 1) (plain-drop n text e))

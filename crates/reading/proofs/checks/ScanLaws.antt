@@ -1,18 +1,19 @@
 -- Laws of the lines of a drawing, scanned one after the other (`LinesSoFar`).
 use Prim.Native.Nat.{ℕ, _+_, _-_, _*_, _^_, _≤_, _<_}
-use mathlib.Core.Path.{_≡_, refl, sym, subst, _∙_}
+use mathlib.Core.Path.{_≡_, refl, sym, ap, subst, _∙_}
 use mathlib.Core.Logic.{⊎-elim}
 use mathlib.Core.Bool.{Bool, true, false, not}
 use mathlib.Core.List.{List}
 use native.Mathlib.Omega.{arith}
 use native.Mathlib.Nat.{eq-or-lt-of-le}
 use lib.Dec.{leb}
-use lib.ListN.{length, getD, take, drop, length-take}
+use lib.ListN.{length, getD, take, drop, set, length-take}
+use lib.Seq.{take-length, getD-set-same, getD-set-other}
 use borrow.Author.Tests.{not-false, leb-true}
 use Rattle.seq.specs.Lists.{sum, firstAt}
 use Rattle.seq.proofs.Gathered.{sum-step, sum-within}
 use Rattle.text.specs.Utf8.{wellFormed, plain}
-use Rattle.text.proofs.PlainLaws.{plain-part}
+use Rattle.text.proofs.PlainLaws.{plain-take, plain-drop, plain-part}
 use Rattle.grid.specs.Values.{Line, noLine}
 use Rattle.grid.specs.Flat.{splitText, linesFrom}
 use Rattle.grid.specs.LayoutCall.{slotSpace}
@@ -20,9 +21,9 @@ use Rattle.grid.proofs.SlotLaws.{lines-length, line-at}
 use Rattle.slots.specs.Scan.{LineKnown, ScanRoom, NextScanned}
 use Rattle.slots.proofs.scan.ScannedLaws.{known-kept}
 use Rattle.reading.specs.Agreement.{WithinLimits}
-use Rattle.reading.specs.Checks.{LinesScanned}
+use Rattle.reading.specs.Checks.{PlainNoted, LinesScanned}
 use Rattle.reading.specs.declared.checks.Place.the-variants.{At, Nowhere}
-use Rattle.reading.proofs.checks.CheckLaws.{outside-here, inside-here, none-outside}
+use Rattle.reading.proofs.checks.CheckLaws.{outside-here, inside-here, none-outside, plain-inside}
 
 -- the lines before y are in the set and known
 pub record LinesSoFar (lengths columns text glyphs₀ offsets₀ counts₀ glyphs offsets counts : List ℕ) (at y : ℕ) : Type 0 where
@@ -118,3 +119,35 @@ module _ (lengths columns text glyphs₀ offsets₀ counts₀ glyphs offsets cou
         told = none-outside lengths text at y (so-far .passed) end;
         known = λ e k h. so-far .known k (omega (arith, lines-length lengths columns text, so-far .inside));
       }
+
+-- ---- a drawing that is plain throughout
+pub noted-starts : (counts : List ℕ) → PlainNoted 0 counts
+noted-starts counts = record { noted = λ y h. absurd (omega arith) }
+
+pub noted-next : (lines y : ℕ) (counts₀ counts : List ℕ) → PlainNoted y counts → y < lines → length counts ≡ length counts₀ → lines ≤ length counts₀
+    → PlainNoted (y + 1) (set counts y 255)
+noted-next lines y counts₀ counts so-far h kept room =
+    record {
+      noted = λ k low.
+          ⊎-elim (λ (e : k ≡ y). rw e (getD-set-same counts y 255 0 (omega arith)))
+          (λ (before : k < y). getD-set-other counts y k 255 0 (λ e. omega arith) ∙ so-far .noted k before)
+          (eq-or-lt-of-le (let q : k ≤ y = omega arith in q));
+    }
+
+pub noted-ends : (lines y : ℕ) (counts : List ℕ) → PlainNoted y counts → lines ≤ y → PlainNoted lines counts
+noted-ends lines y counts so-far h = record { noted = λ k low. so-far .noted k (omega arith) }
+
+pub plain-known : (lengths columns text glyphs offsets counts : List ℕ) (known : ℕ) → plain (take known text) ≡ true → known ≡ length text → PlainNoted (length lengths) counts
+    → LinesScanned lengths columns text glyphs offsets counts Nowhere
+plain-known lengths columns text glyphs offsets counts known front all-known all =
+    record {
+      told = plain-inside lengths text 0 whole;
+      known = λ e y h.
+          let inside : y < length lengths = omega (arith, lines-length lengths columns text) in
+          record {
+            plainLine = λ marked. rw (line-at lengths columns text y noLine inside) (plain-take (getD lengths y 0) (drop (sum (take y lengths)) text) (plain-drop (sum (take y lengths)) text whole));
+            other = λ unmarked. absurd (unmarked (all .noted y inside));
+          };
+    } where
+      whole : plain text ≡ true
+      whole = sym (ap plain (ap (λ (n : ℕ). take n text) all-known ∙ take-length text)) ∙ front

@@ -2,7 +2,7 @@
 use Prim.Native.Nat.{_-_}
 use borrow.Author.Needs.{needs}
 use lib.ListN.{length}
-use Rattle.reading.proofs.checks.ScanLaws.{LinesSoFar, lines-start, line-short, line-near, line-within, line-fits, line-columned, line-plain, line-scannable, line-outside, line-next, lines-known}
+use Rattle.reading.proofs.checks.ScanLaws.{LinesSoFar, lines-start, line-short, line-near, line-within, line-fits, line-columned, line-plain, line-scannable, line-outside, line-next, lines-known, plain-known}
 use Rattle.reading.proofs.checks.scan_lines.Statement.{statement}
 use Rattle.reading.proofs.checks.scan_lines.Tie as tie
 
@@ -15,8 +15,17 @@ abbrev μ-loop : tie.MeasureT-loop
 plain-start-requires : tie.Need-plain-start-requires Inv-loop μ-loop
 plain-start-requires c κs = search needs
 
+note-plain-requires : tie.Need-note-plain-requires Inv-loop μ-loop
+note-plain-requires c κs = search needs
+
+same-length : tie.Need-same-length Inv-loop μ-loop
+same-length c = search needs
+
+returns : tie.Need-returns Inv-loop μ-loop
+returns c = search (needs, plain-known)
+
 -- where line y was scanned
-abbrev scanned : tie.Then1 Inv-loop μ-loop → tie.After-scan-next Inv-loop μ-loop
+abbrev scanned : tie.Then2 Inv-loop μ-loop → tie.After-scan-next Inv-loop μ-loop
 scanned c = search needs
 
 loop-holds : tie.Need-loop-holds Inv-loop μ-loop
@@ -53,10 +62,7 @@ part-scan-next-end : tie.Need-part-scan-next-end Inv-loop μ-loop
 part-scan-next-end c = search line-within
 
 scan-next-requires : tie.Need-scan-next-requires Inv-loop μ-loop
-scan-next-requires c κs = search (line-plain, line-scannable)
-
-same-length : tie.Need-same-length Inv-loop μ-loop
-same-length c = search needs
+scan-next-requires c κs = (search line-plain, search line-scannable)
 
 same-length-2 : tie.Need-same-length-2 Inv-loop μ-loop
 same-length-2 c = search needs
@@ -64,8 +70,11 @@ same-length-2 c = search needs
 same-length-3 : tie.Need-same-length-3 Inv-loop μ-loop
 same-length-3 c = search needs
 
-returns : tie.Need-returns Inv-loop μ-loop
-returns c = search (line-outside, scanned c .scan-next .ensures, c .if1 .taken)
+same-length-4 : tie.Need-same-length-4 Inv-loop μ-loop
+same-length-4 c = search needs
+
+returns-2 : tie.Need-returns-2 Inv-loop μ-loop
+returns-2 c = search (line-outside, scanned c .scan-next .ensures, c .if2 .taken)
 
 add-y : tie.Need-add-y Inv-loop μ-loop
 add-y c = search needs
@@ -76,17 +85,17 @@ loop-less c = search needs
 loop-again : tie.Need-loop-again Inv-loop μ-loop
 loop-again c = search line-next
 
-same-length-4 : tie.Need-same-length-4 Inv-loop μ-loop
-same-length-4 c = search needs
-
 same-length-5 : tie.Need-same-length-5 Inv-loop μ-loop
 same-length-5 c = search needs
 
 same-length-6 : tie.Need-same-length-6 Inv-loop μ-loop
 same-length-6 c = search needs
 
-returns-2 : tie.Need-returns-2 Inv-loop μ-loop
-returns-2 c = search lines-known
+same-length-7 : tie.Need-same-length-7 Inv-loop μ-loop
+same-length-7 c = search needs
+
+returns-3 : tie.Need-returns-3 Inv-loop μ-loop
+returns-3 c = search lines-known
 
 pub scan-lines-spec : {M : Type 1} → statement M
 scan-lines-spec =
@@ -95,6 +104,9 @@ scan-lines-spec =
     Inv-loop
     μ-loop
     plain-start-requires
+    note-plain-requires
+    same-length
+    returns
     loop-holds
     mul-end
     shared-slice-read-end
@@ -107,14 +119,14 @@ scan-lines-spec =
     part-scan-next-start
     part-scan-next-end
     scan-next-requires
-    same-length
     same-length-2
     same-length-3
-    returns
+    same-length-4
+    returns-2
     add-y
     loop-less
     loop-again
-    same-length-4
     same-length-5
     same-length-6
-    returns-2)
+    same-length-7
+    returns-3)

@@ -21,8 +21,8 @@ fn is_character(decoded: Decoded) -> bool
     }
 }
 
-// Is the character at a place a mark? It is not put together: of two bytes that stand so, 64 times the first and
-// the second are from 3380 to 33EF for 300 to 36F.
+// Is the character at a place a mark, 300 to 36F? It is not put together: where the second byte goes on with a
+// character, 64 times the first byte and the second then add up to 3380 to 33EF.
 pub fn is_mark(line: &[u8], at: ByteAt) -> bool
     requires { ⌜ at .0 < length (now line) ⌝ }
     ensures { λ r. ⌜ (r ≡ true → MarkAt (now (line .entry)) (at .0)) ⌝ }

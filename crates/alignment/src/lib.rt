@@ -1,5 +1,7 @@
 // The corners on the alignment line, beside which colons stand (grid_table.rs: format_grid_table), and
 // refusals 9 and 10.
+#![tactic(auto)]
+
 ghost use Rattle.std.specs.Prelude.{◌*◌, ◌≤◌, ◌≡◌, map, eqb, length};
 ghost use Rattle.seq.specs.Lists.{count, find, up_to};
 ghost use Rattle.grid.specs.Flat.{code_section};

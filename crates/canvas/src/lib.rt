@@ -2,6 +2,8 @@
 // lines and at sides, `=` rules and colons. The canvas is working space, never cleared: a border's
 // slot holds its byte, the first inner column of each inner line of cell k holds 256 + k, and the
 // other slots hold anything.
+#![tactic(auto)]
+
 pub mod borders;
 pub mod colons;
 pub mod corners;

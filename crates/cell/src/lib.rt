@@ -1,4 +1,6 @@
 // The cut lines of one cell of a drawing (mod.rs: build_grid_table).
+#![tactic(auto)]
+
 pub mod cuts;
 pub mod lines;
 pub mod pieces;

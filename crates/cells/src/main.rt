@@ -1,4 +1,6 @@
 // Prints the cells of the grid table on standard input, each with its place and its lines, or the refusal.
+#![tactic(auto)]
+
 use input::Input;
 
 fn main() {

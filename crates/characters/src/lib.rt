@@ -1,4 +1,6 @@
 // The columns of a character, and which characters there are.
+#![tactic(auto)]
+
 pub mod known;
 
 ghost use Rattle.std.specs.Prelude.{◌≡◌};

@@ -1,5 +1,7 @@
 // Redrawing a table (cm/grid_table.rs: format_grid_table), with the checks that the Rust has not: the
 // checks up to 8; the sizes; 9 and 10; and, from the sizes, drawn size (2), 11, 12 and the drawing.
+#![tactic(auto)]
+
 pub mod arrays;
 pub mod columns;
 pub mod draw;

@@ -1,4 +1,6 @@
 // Cutting one line of a cell (mod.rs: cell_fragment).
+#![tactic(auto)]
+
 pub mod part;
 pub mod view;
 

@@ -1,5 +1,6 @@
 // What reading a drawing gives: slots, first bordered rectangles, tracing, the table, cutting and
 // the refusals 1 to 7, as definitions in specs/; theorems about them in proofs/.
+#![tactic(auto)]
 
 #[derive(Drop)]
 pub enum TableAlignment {

@@ -1,5 +1,7 @@
 // The public calls for C and Rust: slices as pointer and length, answers as one struct. In C the
 // arrays must be valid for their lengths and aligned, and one that is written may overlap no other.
+#![tactic(auto)]
+
 pub mod cells;
 pub mod fragment;
 pub mod lines;

@@ -1,4 +1,6 @@
 // The page of a table (html/grid_table.rs: render_grid_table), with the checks that the Rust has not.
+#![tactic(auto)]
+
 pub mod cells;
 pub mod checks;
 pub mod colgroup;

@@ -1,5 +1,7 @@
 // What the programs share: their arguments, a sheet from standard input, as far as a buffer holds it,
 // a result to standard output, and a line on standard error where one of them fails.
+#![tactic(auto)]
+
 ghost use Rattle.input.specs.Within.{Within};
 
 #[derive(Drop)]

@@ -1,4 +1,6 @@
 // The lines of an input: line-feed-ended, the last may lack its feed.
+#![tactic(auto)]
+
 ghost use Rattle.std.specs.Prelude.{◌+◌, ◌-◌, ◌≤◌, ◌<◌, ◌≡◌, ◌∷◌, length, take, drop};
 ghost use Rattle.grid.specs.Listing.{split_lines};
 ghost use Rattle.input_lines.specs.Splitting.{Splits};

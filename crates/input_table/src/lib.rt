@@ -1,4 +1,6 @@
 // The table of an input's lines, from the table call.
+#![tactic(auto)]
+
 ghost use Rattle.std.specs.Prelude.{◌≤◌, ◌≡◌, length};
 ghost use Rattle.seq.specs.Lists.{sum};
 ghost use Rattle.drawing.specs.RedrawCall.{table_lent};

@@ -8,6 +8,8 @@
 // is width 9, 2 columns, 1 row, 2 cells and 2 ranges; written are the columns 0 3, 0 3 (alignment,
 // width), the row 1 0 2 (section, top, bottom), the cells 0 0 1 1 0, 0 1 1 1 4 (row, column,
 // colspan, rowspan, left) and the ranges 1 4, 5 8 (start, end; one for each inner line of a cell).
+#![tactic(auto)]
+
 pub mod alignments;
 pub mod arrays;
 pub mod bounds;

@@ -1,4 +1,6 @@
 // What the listing program prints for what it reads, as one function on bytes.
+#![tactic(auto)]
+
 pub mod lines;
 pub mod print;
 

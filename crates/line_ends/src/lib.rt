@@ -1,5 +1,7 @@
 // The register of line ends (mod.rs: place_cell_line_ends, CellLineEnd::remap): three lent arrays of
 // 1,024 entries and a count, the ends in the order in which they were added.
+#![tactic(auto)]
+
 pub mod search;
 
 ghost use Rattle.std.specs.Prelude.{◌<◌, ◌≡◌, length, set};

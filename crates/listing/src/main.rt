@@ -1,4 +1,6 @@
 // Lists the grid table on standard input: its sizes, columns, rows and cells, or the refusal.
+#![tactic(auto)]
+
 use input::Input;
 
 fn main() {

@@ -1,4 +1,6 @@
 // What the toolchain's library lacks of numbers.
+#![tactic(auto)]
+
 ghost use Rattle.std.specs.Prelude.{min, ◌≡◌};
 
 pub fn least(a: usize, b: usize) -> usize

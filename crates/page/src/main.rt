@@ -1,5 +1,7 @@
 // Prints the page of the grid table on standard input, its columns' shares where `--widths` is
 // given, or the refusal.
+#![tactic(auto)]
+
 use input::{Choice, Input};
 
 fn main() {

@@ -1,4 +1,6 @@
 // What the program `page` prints for what it reads, as one function on bytes.
+#![tactic(auto)]
+
 pub mod escape;
 pub mod lines;
 

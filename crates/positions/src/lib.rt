@@ -1,4 +1,6 @@
 // The source positions of a table, its rows and its cells (mod.rs: build_grid_table).
+#![tactic(auto)]
+
 pub mod cells;
 pub mod checks;
 pub mod rows;

@@ -1,4 +1,6 @@
 // Numbers and words, printed into a buffer. Each function gives the place after what it wrote.
+#![tactic(auto)]
+
 ghost use Rattle.std.specs.Prelude.{◌+◌, ◌*◌, ◌≤◌, ◌<◌, ◌≡◌, [], ◌∷◌, ◌++◌, length, get_or};
 ghost use Rattle.seq.specs.Decimal.{decimal};
 ghost use Rattle.printing.specs.Printing.{Put, Prints, spaced, cell_printed};

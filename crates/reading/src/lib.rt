@@ -1,4 +1,6 @@
 // Reading a drawing up to its traced rectangles, in the order of the checks (layout.rs: layout).
+#![tactic(auto)]
+
 pub mod checks;
 pub mod limits;
 

@@ -1,4 +1,6 @@
 // Prints the redrawing of the grid table on standard input, or the refusal.
+#![tactic(auto)]
+
 use input::Input;
 
 fn main() {

@@ -1,4 +1,6 @@
 // From a drawing to its redrawing: the table call, then the redraw call on what it wrote.
+#![tactic(auto)]
+
 ghost use Rattle.std.specs.Prelude.{◌*◌, ◌≤◌, ◌≡◌, ◌||◌, length};
 ghost use Rattle.grid.specs.LayoutCall.{spaces, drawing};
 ghost use Rattle.grid.specs.TableCall.{table_spaces};

@@ -22,6 +22,8 @@
 //     m    `accepted`, line, start and eol
 //     s    the hundredths, and the bits of the f64 in hexadecimal
 //     g    `accepted`, the page's length and its bytes, a backslash and all that is no printable ASCII as `\` and two digits
+#![tactic(auto)]
+
 mod ends;
 mod pages;
 mod places;

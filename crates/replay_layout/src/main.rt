@@ -8,6 +8,8 @@
 // `r`, four digits and a pair stand for that byte so many times.
 //
 // An answer is `refused`, number and place; or `accepted`, width, columns, rows, cells, ranges and all entries of the four arrays.
+#![tactic(auto)]
+
 use layout::LayoutAnswer;
 use libc::STDOUT_FILENO;
 use numbers::least;

@@ -9,6 +9,8 @@
 // `r`, four digits and a pair stand for that byte so many times.
 //
 // An answer is `refused`, number and place; or `accepted`, lines, bytes, all line lengths, all line columns, and the text as it is.
+#![tactic(auto)]
+
 use cm::draw::RedrawAnswer;
 use libc::STDOUT_FILENO;
 use numbers::least;

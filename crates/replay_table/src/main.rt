@@ -8,6 +8,8 @@
 // `r`, four digits and a pair stand for that byte so many times.
 //
 // An answer is `refused`, number and place; or `accepted`, columns, rows, cells, lines, bytes and all entries of the five arrays.
+#![tactic(auto)]
+
 use libc::STDOUT_FILENO;
 use numbers::least;
 use replaying::{

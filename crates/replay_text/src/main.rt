@@ -8,6 +8,8 @@
 //
 // Fields are parted by single spaces. Bytes are pairs of hexadecimal digits in lower case, `-` for none, and numbers decimal, of
 // at most 18 digits.
+#![tactic(auto)]
+
 use libc::STDOUT_FILENO;
 use replaying::{first_line, next_line, number_field, print, print_digits, text_field, word_field};
 use text::{ByteAt, Column, Decoded, Width};

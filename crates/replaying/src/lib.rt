@@ -1,4 +1,6 @@
 // What the programs that replay cases have in common: the lines of the input, the fields of a case, and printing.
+#![tactic(auto)]
+
 ghost use Rattle.std.specs.Prelude.{◌≤◌, ◌<◌, ◌≡◌, length};
 
 use libc::STDOUT_FILENO;

@@ -1,5 +1,7 @@
 // The answers of the calls as structs for C and Rust, each beside the function from the one to the
 // other; and the lengths of the arrays that a caller lends.
+#![tactic(auto)]
+
 pub mod cells;
 pub mod fragment;
 pub mod layouts;

@@ -1,6 +1,7 @@
 // The code's own definitions: how its arrays hold slots, rectangles, lines and entries, and an answer
 // in the parts in which the code makes it. In proofs/, that these agree with the rules' definitions.
 // No promise is read here.
+#![tactic(auto)]
 
 // The column (row) lines in order, the first count entries of `lines`; and for each column (line)
 // how many of them come before it.

@@ -16,7 +16,7 @@ use Rattle.seq.proofs.Searches.{mem-any, any_none}
 
 module _ {A : Type 0} (test : A → Bool) where
   -- the only member that passes is the one found
-  pub find-only : {l : List A} {a : A} → Memᴰ a l → test a ≡ true → ((b : A) → Memᴰ b l → test b ≡ true → b ≡ a) → find test l ≡ some a
+  pub find-only : {a : A} {l : List A} → Memᴰ a l → test a ≡ true → ((b : A) → Memᴰ b l → test b ≡ true → b ≡ a) → find test l ≡ some a
   unfolding find
   find-only {a = a} (Memᴰ.head {x} {xs} q) e only = let f : test x ≡ true = rw q at e in rw f (ap some (sym q))
   find-only {a = a} (Memᴰ.tail {x} {xs} m) e only = go (test x) refl (find-only m e (λ b n. only b (Memᴰ.tail n))) where
@@ -31,6 +31,7 @@ module _ {A : Type 0} (test : A → Bool) where
 
   pub find_none : (l : List A) → find test l ≡ none → {a : A} → Memᴰ a l → test a ≡ false
   unfolding find
+  find_none [] e {a = a} m = elim m [ ]
   find_none (x ∷ l) e {a} m = go (test x) refl e m (λ e n. find_none l e n) where
     go : (t : Bool) → test x ≡ t → cond t (some x) (find test l) ≡ none → Memᴰ a (x ∷ l) → (find test l ≡ none → Memᴰ a l → test a ≡ false) → test a ≡ false
     go true q e m later = absurd (let z : ◌≡◌ {A = ℕ} 0 1 = cc in omega arith)

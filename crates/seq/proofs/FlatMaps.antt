@@ -42,7 +42,7 @@ module _ {A B : Type 0} where
     go (inl here) later = (a, Memᴰ.head refl, here)
     go (inr n) later = let found = later n in (found.0, Memᴰ.tail found.1, found.2)
 
-  pub flat_map-mem : (f : A → List B) {l : List A} {a : A} {b : B} → Memᴰ a l → Memᴰ b (f a) → Memᴰ b (flat_map f l)
+  pub flat_map-mem : (f : A → List B) {a : A} {l : List A} {b : B} → Memᴰ a l → Memᴰ b (f a) → Memᴰ b (flat_map f l)
   unfolding flat_map
   flat_map-mem f {b = b} (Memᴰ.head {x} {xs} q) n = Memᴰ.append_left (flat_map f xs) (subst (λ z. Memᴰ b (f z)) q n)
   flat_map-mem f (Memᴰ.tail {x} {xs} m) n = Memᴰ.append_right (f x) (flat_map-mem f m n)

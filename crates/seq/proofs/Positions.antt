@@ -18,7 +18,7 @@ pub mem-last : {A : Type 0} (l : List A) (a : A) → Memᴰ a (l ++ a ∷ [])
 mem-last [] a = Memᴰ.head refl
 mem-last (b ∷ l) a = Memᴰ.tail (mem-last l a)
 
-pub mem-get_or : {A : Type 0} {l : List A} {a : A} (d : A) → Memᴰ a l → (i : ℕ) × (i < length l) × (get_or l i d ≡ a)
+pub mem-get_or : {A : Type 0} {a : A} {l : List A} (d : A) → Memᴰ a l → (i : ℕ) × (i < length l) × (get_or l i d ≡ a)
 mem-get_or d (Memᴰ.head {x} {xs} q) = (0, omega arith, sym q)
 mem-get_or d (Memᴰ.tail {x} {xs} m) = let (i, u, e) = mem-get_or d m in (suc i, omega arith, e)
 

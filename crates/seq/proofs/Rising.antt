@@ -56,6 +56,7 @@ pub record Position (l : List ℕ) (x : ℕ) : Type 0 where
   pub here : get_or l (count (λ n. ltb n x) l) 0 ≡ x
 
 pub rising-position : (l : List ℕ) → neighbours ltb l ≡ true → {x : ℕ} → Memᴰ x l → Position l x
+rising-position [] e {x = x} x4 = elim x4 [ ]
 rising-position (a ∷ l) e {x} (Memᴰ.head q) =
     let later : count (λ n. ltb n x) l ≡ 0 =
     count_none (λ n. ltb n x) l (λ n m t. omega (arith, ltb-true a n (sorted_head ltb rising-strict a l e m), ltb-true n x t)) in

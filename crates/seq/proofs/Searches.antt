@@ -19,6 +19,7 @@ use Rattle.seq.proofs.Positions.{get_or-mem}
 module _ {A : Type 0} (test : A → Bool) where
   pub all-mem : (l : List A) → all test l ≡ true → {a : A} → Memᴰ a l → test a ≡ true
   unfolding all
+  all-mem [] e {a = a} x'' = elim x'' [ ]
   all-mem (b ∷ l) e (Memᴰ.head q) = rw q (and_left (test b) (all test l) e)
   all-mem (b ∷ l) e (Memᴰ.tail m) = all-mem l (and_right (test b) (all test l) e) m
 
@@ -36,7 +37,7 @@ module _ {A : Type 0} (test : A → Bool) where
     go (inl f) later = (b, Memᴰ.head refl, f)
     go (inr f) later = let found = later f in (found.0, Memᴰ.tail found.1, found.2)
 
-  pub mem-any : {l : List A} {a : A} → Memᴰ a l → test a ≡ true → any test l ≡ true
+  pub mem-any : {a : A} {l : List A} → Memᴰ a l → test a ≡ true → any test l ≡ true
   unfolding any
   mem-any (Memᴰ.head {x} {xs} q) e = or_left (any test xs) (rw q at e)
   mem-any (Memᴰ.tail {x} {xs} m) e = or_right (test x) (mem-any m e)
@@ -57,7 +58,7 @@ module _ {A : Type 0} (test : A → Bool) where
     go true e (Memᴰ.tail n) later = let below = later n in (Memᴰ.tail below.0, below.1)
     go false e n later = let below = later n in (Memᴰ.tail below.0, below.1)
 
-  pub mem-select : {l : List A} {a : A} → Memᴰ a l → test a ≡ true → Memᴰ a (select test l)
+  pub mem-select : {a : A} {l : List A} → Memᴰ a l → test a ≡ true → Memᴰ a (select test l)
   unfolding select
   mem-select (Memᴰ.head {x} {xs} q) e = let f : test x ≡ true = rw q at e in rw f (Memᴰ.head q)
   mem-select {a = a} (Memᴰ.tail {x} {xs} m) e = go (test x) (mem-select m e) where
@@ -77,7 +78,7 @@ module _ {A : Type 0} (test : A → Bool) where
   count-few [] = omega arith
   count-few (a ∷ l) = omega (arith, count-cons a l, bit-one (test a), count-few l)
 
-  pub count-mem : {l : List A} {a : A} → Memᴰ a l → test a ≡ true → 0 < count test l
+  pub count-mem : {a : A} {l : List A} → Memᴰ a l → test a ≡ true → 0 < count test l
   count-mem (Memᴰ.head {x} {xs} q) e = let f : test x ≡ true = rw q at e in omega (arith, count-cons x xs, bit-true f)
   count-mem (Memᴰ.tail {x} {xs} m) e = omega (arith, count-cons x xs, count-mem m e)
 
@@ -99,7 +100,7 @@ module _ {A : Type 0} (test : A → Bool) where
       omega (arith, count-cons b l, bit-false (bool-refused (test b) (h b (Memᴰ.head refl))), count_none l (λ a m. h a (Memᴰ.tail m)))
 
   -- where exactly one passes, any two that pass are the same
-  pub count-one : {l : List A} → count test l ≡ 1 → {a b : A} → Memᴰ a l → Memᴰ b l → test a ≡ true → test b ≡ true → a ≡ b
+  pub count-one : {a b : A} {l : List A} → count test l ≡ 1 → Memᴰ a l → Memᴰ b l → test a ≡ true → test b ≡ true → a ≡ b
   count-one one (Memᴰ.head q) (Memᴰ.head r) e f = q ∙ sym r
   count-one one (Memᴰ.head {x} {xs} q) (Memᴰ.tail n) e f =
       absurd (let g : test x ≡ true = rw q at e in omega (arith, count-cons x xs, bit-true g, count-mem n f))
@@ -250,6 +251,7 @@ module _ {A : Type 0} (test : A → Bool) where
 
   pub first_at-none : (at : ℕ) (l : List A) → first_at test at l ≡ none → {a : A} → Memᴰ a l → test a ≡ false
   unfolding first_at
+  first_at-none at [] e {a = a} m = elim m [ ]
   first_at-none at (b ∷ l) e {a} m = go (test b) refl e m (λ e n. first_at-none (at + 1) l e n) where
     go : (t : Bool) → test b ≡ t → cond t (some at) (first_at test (at + 1) l) ≡ none → Memᴰ a (b ∷ l)
         → (first_at test (at + 1) l ≡ none → Memᴰ a l → test a ≡ false) → test a ≡ false

@@ -11,6 +11,7 @@ use Rattle.seq.proofs.Tests.{le-or-lt}
 
 pub smallest-le : (l : List ℕ) {n : ℕ} → Memᴰ n l → smallest l ≤ n
 unfolding smallest
+smallest-le [] {n = n} x' = elim x' [ ]
 smallest-le (a ∷ []) (Memᴰ.head e) = omega arith
 smallest-le (a ∷ []) (Memᴰ.tail m) = elim m [ ]
 smallest-le (a ∷ b ∷ l) (Memᴰ.head e) = omega arith

@@ -33,6 +33,7 @@ module _ {A : Type 0} (before : A → A → Bool) where
     -- the first comes before all the others
     pub sorted_head : (a : A) (l : List A) → neighbours before (a ∷ l) ≡ true → {x : A} → Memᴰ x l → before a x ≡ true
     unfolding neighbours
+    sorted_head a [] e {x = x} x4 = elim x4 [ ]
     sorted_head a (b ∷ l) e (Memᴰ.head q) = rw q (and_left (before a b) (neighbours before (b ∷ l)) e)
     sorted_head a (b ∷ l) e {x} (Memᴰ.tail m) =
         strict.transitive a b x (and_left (before a b) (neighbours before (b ∷ l)) e)
@@ -65,6 +66,7 @@ module _ {A : Type 0} (before : A → A → Bool) where
 
     -- what stands before an element comes before it
     pub sorted-across : (xs ys : List A) (q : A) → neighbours before (xs ++ q ∷ ys) ≡ true → {a : A} → Memᴰ a xs → before a q ≡ true
+    sorted-across [] ys q e {a = a} x'' = elim x'' [ ]
     sorted-across (x ∷ xs) ys q e (Memᴰ.head r) = rw r (sorted_head x (xs ++ q ∷ ys) e (Memᴰ.append_right xs (Memᴰ.head refl)))
     sorted-across (x ∷ xs) ys q e (Memᴰ.tail m) = sorted-across xs ys q (sorted_tail x (xs ++ q ∷ ys) e) m
 
@@ -77,6 +79,7 @@ module _ {A : Type 0} (before : A → A → Bool) where
     -- a sorted list: those that come before one of its elements, that element, and more
     pub sorted-split : (l : List A) → neighbours before l ≡ true → {p : A} → Memᴰ p l → (more : List A) × (l ≡ select (λ a. before a p) l ++ p ∷ more)
     unfolding select
+    sorted-split [] e {p = p} x'' = elim x'' [ ]
     sorted-split (a ∷ l) e {p} (Memᴰ.head q) =
         let not-self : before a p ≡ false = bool-refused (before a p) (λ h. apart h (sym q)) in
         (l, rw (not-self, none_before p l (λ b m. subst (λ (z : A). before z b ≡ true) (sym q) (sorted_head a l e m))) (ap (λ (z : A). z ∷ l) (sym q)))

@@ -1,2 +1,3 @@
 // Lists, ranges and searches that the toolchain's library lacks: definitions in specs/, laws in
 // proofs/. Nothing here knows of grid tables.
+#![tactic(auto)]

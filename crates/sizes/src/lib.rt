@@ -1,4 +1,6 @@
 // Where the borders of a table stand (grid_table.rs: format_grid_table, up to `offsets`).
+#![tactic(auto)]
+
 pub mod borders;
 pub mod cells;
 pub mod fit;

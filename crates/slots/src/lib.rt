@@ -1,4 +1,6 @@
 // The slots of a drawing as arrays, and its part separators (layout.rs: Grid::new).
+#![tactic(auto)]
+
 pub mod fill;
 pub mod glyphs;
 pub mod line;

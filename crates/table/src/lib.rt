@@ -1,4 +1,6 @@
 // From a drawing to its table (mod.rs: build_grid_table).
+#![tactic(auto)]
+
 pub mod cells;
 pub mod lines;
 pub mod room;

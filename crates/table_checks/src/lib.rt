@@ -1,4 +1,6 @@
 // The checks of a table in the order in which redraw makes them: 13, 1, 2, 3, 8.
+#![tactic(auto)]
+
 pub mod arrays;
 pub mod cover;
 pub mod entries;

@@ -1,4 +1,5 @@
 // Characters and their columns, UTF-8, trimming and rule lines (layout.rs: trim_end, is_rule).
+#![tactic(auto)]
 
 // A place in a line, counted in bytes.
 #[derive(Drop)]

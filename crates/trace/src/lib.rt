@@ -1,5 +1,7 @@
 // Tracing: the next corner's first bordered rectangle, until the skyline stands on the last line
 // (layout.rs: trace).
+#![tactic(auto)]
+
 pub mod count;
 pub mod rects;
 pub mod search;

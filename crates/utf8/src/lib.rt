@@ -1,4 +1,6 @@
 // UTF-8, for the characters of the set: the character at a place of a line.
+#![tactic(auto)]
+
 pub mod columns;
 pub mod known;
 pub mod line_text;

@@ -1,5 +1,7 @@
 // Bytes put down one after the other: what fits into the space is written, and all of it is counted.
 // Run on no space, a writer counts.
+#![tactic(auto)]
+
 pub mod decimals;
 
 ghost use Rattle.std.specs.Prelude.{◌+◌, ◌-◌, ◌≤◌, min, ◌≡◌, [], ◌∷◌, length, replicate};

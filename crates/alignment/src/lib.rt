@@ -17,14 +17,14 @@ const FOOT: u8 = 2;
 
 // How many rows are Head, and how many Foot. Foot rows and no Head row are refusal 9; else the
 // alignment line is the row line below the Head rows.
-#[derive(Drop)]
+#[derive(Clone, Copy)]
 pub struct SectionCounts {
     pub heads: usize,
     pub foots: usize,
 }
 
 // 1 at each column line where a cell has a corner on one row line.
-#[derive(Drop)]
+#[derive(Clone, Copy)]
 pub struct Corners {
     pub marks: [u8; 128],
 }

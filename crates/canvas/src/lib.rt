@@ -23,7 +23,7 @@ use crate::colons::draw_colons;
 use crate::corners::draw_corners;
 
 // The lines that are `=` rules; 255 where there is none.
-#[derive(Drop)]
+#[derive(Clone, Copy)]
 pub struct Rules {
     pub head: usize,
     pub foot: usize,

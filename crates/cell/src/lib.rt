@@ -21,7 +21,7 @@ use text::Column;
 const MAX_LINES: usize = 128;
 
 // How many cut lines were written; or a refusal.
-#[derive(Drop)]
+#[derive(Clone, Copy)]
 pub enum CellAnswer {
     Accepted(usize),
     Refused { number: usize, place: usize },

@@ -13,7 +13,7 @@ use slots::map::byte_at;
 use text::{ByteAt, Column};
 
 // How many lines, and their bytes.
-#[derive(Drop)]
+#[derive(Clone, Copy)]
 pub struct TextSize {
     pub lines: usize,
     pub bytes: usize,

@@ -29,7 +29,7 @@ const MAX_WIDTH: usize = 128;
 const NO_RULE: usize = 255;
 
 // How many lines and bytes were written; or a refusal.
-#[derive(Drop)]
+#[derive(Clone, Copy)]
 pub enum RedrawAnswer {
     Accepted { lines: usize, bytes: usize },
     Refused { number: usize, place: usize },

@@ -9,7 +9,7 @@ use crate::lines::write_line;
 use text::{ByteAt, Column};
 
 // The length of each line, and of all together.
-#[derive(Drop)]
+#[derive(Clone, Copy)]
 pub struct LineSizes {
     pub lengths: [usize; 128],
     pub bytes: usize,

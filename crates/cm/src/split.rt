@@ -22,7 +22,7 @@ use text::{ByteAt, Column};
 use utf8::known::{Known, known_character};
 
 // For each column, how many lines from the first on show `|` or `+` there.
-#[derive(Drop)]
+#[derive(Clone, Copy)]
 pub struct Hits {
     pub lines: [u8; 128],
 }

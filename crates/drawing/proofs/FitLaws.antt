@@ -43,11 +43,11 @@ pub fit-grows : (ws : List ℕ) (ns : List Need) → ws ≼ fit ws ns
 unfolding fit
 fit-grows ws ns = pointwise-trans (turns-grow ws ns raise_single raise-grows) (turns-grow _ ns add_lack lack-grows)
 
-lacks-meet : (ws : List ℕ) {ns : List Need} {n : Need} → Memᴰ n ns → n.from < n.to → n.to ≤ length ws → n.size ≤ have (in_turn add_lack ws ns) n
+lacks-meet : {n : Need} (ws : List ℕ) {ns : List Need} → Memᴰ n ns → n.from < n.to → n.to ≤ length ws → n.size ≤ have (in_turn add_lack ws ns) n
 unfolding in_turn
-lacks-meet ws {n = n} (Memᴰ.head {x} {xs} q) h k =
+lacks-meet {n} ws (Memᴰ.head {x} {xs} q) h k =
     le_trans (lack-meets ws n h k) (rw (← q) (have-grows n (turns-grow (add_lack ws n) xs add_lack lack-grows)))
-lacks-meet ws {n = n} (Memᴰ.tail {x} {xs} m) h k = lacks-meet (add_lack ws x) m h (omega (arith, pointwise-length (lack-grows ws x)))
+lacks-meet {n} ws (Memᴰ.tail {x} {xs} m) h k = lacks-meet (add_lack ws x) m h (omega (arith, pointwise-length (lack-grows ws x)))
 
 -- each need has its room
 pub fit-meets : (ws : List ℕ) {ns : List Need} {n : Need} → Memᴰ n ns → n.from < n.to → n.to ≤ length ws → n.size ≤ have (fit ws ns) n

@@ -59,6 +59,7 @@ foot-is Foot e = refl
 
 rank-after : (s : GridTableSection) (ss : List GridTableSection) → neighbours may_follow (s ∷ ss) ≡ true → {r : GridTableSection} → Memᴰ r ss → rank s ≤ rank r
 unfolding neighbours
+rank-after s [] e {r = r} x'' = elim x'' [ ]
 rank-after s (b ∷ ss) e (Memᴰ.head q) = rw q (may-rank s b (and_left (may_follow s b) (neighbours may_follow (b ∷ ss)) e))
 rank-after s (b ∷ ss) e {r} (Memᴰ.tail m) =
     le_trans (may-rank s b (and_left (may_follow s b) (neighbours may_follow (b ∷ ss)) e)) (rank-after b ss (and_right (may_follow s b) (neighbours may_follow (b ∷ ss)) e) m)

@@ -22,7 +22,7 @@ const MAX_LEFT: usize = 127;
 const MAX_REGISTER: usize = 65535;
 
 // Where the cut text starts and ends in the line given, and its line, byte and column; or a refusal.
-#[derive(Drop)]
+#[derive(Clone, Copy)]
 pub enum Cut {
     Accepted {
         start: ByteAt,

@@ -7,14 +7,14 @@ use rule_lines::trim::trim_end;
 use text::{ByteAt, Column};
 
 // Where a text starts: its byte and its column.
-#[derive(Drop)]
+#[derive(Clone, Copy)]
 pub struct Start {
     pub byte: ByteAt,
     pub column: Column,
 }
 
 // Where the cut text starts and ends in the line given, and its column.
-#[derive(Drop)]
+#[derive(Clone, Copy)]
 pub struct Piece {
     pub start: ByteAt,
     pub end: ByteAt,

@@ -9,7 +9,7 @@ ghost use Rattle.fragments.specs.View.{cut_place};
 use crate::{Cut, cell_fragment, cell_text};
 use text::{ByteAt, Column};
 
-#[derive(Drop)]
+#[derive(Clone, Copy)]
 pub struct Fragment<'a> {
     pub text: &'a [u8],
     pub line: usize,
@@ -18,7 +18,7 @@ pub struct Fragment<'a> {
 }
 
 // The byte and the column of a cut text.
-#[derive(Drop)]
+#[derive(Clone, Copy)]
 pub struct CutPlace {
     pub byte: ByteAt,
     pub column: Column,

@@ -2,7 +2,7 @@
 // the refusals 1 to 7, as definitions in specs/; theorems about them in proofs/.
 #![tactic(auto)]
 
-#[derive(Drop)]
+#[derive(Clone, Copy)]
 pub enum TableAlignment {
     None,
     Left,
@@ -10,7 +10,7 @@ pub enum TableAlignment {
     Center,
 }
 
-#[derive(Drop)]
+#[derive(Clone, Copy)]
 pub enum GridTableSection {
     Head,
     Body,

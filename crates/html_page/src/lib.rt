@@ -22,7 +22,7 @@ use table_checks::Checked;
 use writer::copy;
 
 // How many bytes the page has; or a refusal.
-#[derive(Drop)]
+#[derive(Clone, Copy)]
 pub enum PageAnswer {
     Accepted(usize),
     Refused { number: usize, place: usize },

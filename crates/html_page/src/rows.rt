@@ -17,7 +17,7 @@ use writer::copy;
 const FOOT: u8 = 2;
 
 // The next cell, where its inner bytes start, and the place after what is written.
-#[derive(Drop)]
+#[derive(Clone, Copy)]
 pub struct Reached {
     pub k: usize,
     pub from: usize,

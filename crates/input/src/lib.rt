@@ -4,7 +4,7 @@
 
 ghost use Rattle.input.specs.Within.{Within};
 
-#[derive(Drop)]
+#[derive(Clone, Copy)]
 pub enum Input {
     Bytes(usize),
     Failed,
@@ -42,7 +42,7 @@ pub fn read_sheet(name: &[u8], buffer: &mut [u8]) -> Input
 }
 
 // Whether a program has its one option.
-#[derive(Drop)]
+#[derive(Clone, Copy)]
 pub enum Choice {
     Off,
     On,

@@ -8,7 +8,7 @@ ghost use Rattle.input_lines.specs.Splitting.{Splits};
 use printing::copy;
 
 // What splitting gives: how many lines and bytes were written, or that a limit on them is passed.
-#[derive(Drop)]
+#[derive(Clone, Copy)]
 pub enum Split {
     Lines { lines: usize, bytes: usize },
     TooLarge,

@@ -35,7 +35,7 @@ use reading::{Outcome, read, trimmed_line};
 use text::Column;
 
 // The width of the drawing and how many columns, rows, cells and ranges were written; or a refusal.
-#[derive(Drop)]
+#[derive(Clone, Copy)]
 pub enum LayoutAnswer {
     Accepted {
         width: Column,

@@ -7,7 +7,7 @@ use representation::Bounds;
 use text::Column;
 
 // How many columns, rows, cells and ranges; short where an array has too little room for them.
-#[derive(Drop)]
+#[derive(Clone, Copy)]
 pub struct Sizes {
     pub tops: Bounds,
     pub lefts: Bounds,

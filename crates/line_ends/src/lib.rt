@@ -16,14 +16,14 @@ const REGISTER_ROOM: usize = 1024;
 const MAX_REGISTER: u32 = 65535;
 
 // How many ends the register now holds; or a refusal.
-#[derive(Drop)]
+#[derive(Clone, Copy)]
 pub enum AddAnswer {
     Accepted(usize),
     Refused { number: usize, place: usize },
 }
 
 // The eol of the end that was found, or that none reaches; or a refusal.
-#[derive(Drop)]
+#[derive(Clone, Copy)]
 pub enum FindAnswer {
     Found(u32),
     None,
@@ -31,7 +31,7 @@ pub enum FindAnswer {
 }
 
 // The end moved onto its fragment; or a refusal.
-#[derive(Drop)]
+#[derive(Clone, Copy)]
 pub enum RemapAnswer {
     Accepted(CellLineEnd),
     Refused { number: usize, place: usize },

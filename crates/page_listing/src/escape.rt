@@ -15,7 +15,7 @@ use writer::{copy, put};
 const MAX_BYTES: usize = 32768;
 
 // Where the next part goes, and how many bytes of the text were taken.
-#[derive(Drop)]
+#[derive(Clone, Copy)]
 pub struct Escaped {
     pub at: usize,
     pub bytes: usize,

@@ -28,7 +28,7 @@ use reading::{Outcome, read, refusal};
 use text::Column;
 
 // The table's position, and how many rows and cells were written; or a refusal.
-#[derive(Drop)]
+#[derive(Clone, Copy)]
 pub enum PositionsAnswer {
     Accepted {
         table: Sourcepos,
@@ -42,7 +42,7 @@ pub enum PositionsAnswer {
 }
 
 // The cell's position; or a refusal.
-#[derive(Drop)]
+#[derive(Clone, Copy)]
 pub enum CellPositionAnswer {
     Accepted(Sourcepos),
     Refused { number: usize, place: usize },

@@ -10,7 +10,7 @@ ghost use Rattle.positions.specs.Needs.{NumberedLines};
 use text::ByteAt;
 
 // The line and column, both from 1, of the first byte and of the last.
-#[derive(Drop)]
+#[derive(Clone, Copy)]
 pub struct Sourcepos {
     pub start_line: u32,
     pub start_column: u32,

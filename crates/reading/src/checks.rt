@@ -15,7 +15,7 @@ use utf8::line_text::{is_plain, well_formed};
 const BLOCK: usize = 512;
 
 // The first line at fault, or none.
-#[derive(Drop)]
+#[derive(Clone, Copy)]
 pub enum Place {
     At(usize),
     Nowhere,

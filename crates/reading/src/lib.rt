@@ -27,7 +27,7 @@ use trace::count::count;
 use trace::trace;
 
 // What the checks up to the width give.
-#[derive(Drop)]
+#[derive(Clone, Copy)]
 pub enum Measured {
     Width(Column),
     Refused { number: usize, place: usize },
@@ -35,7 +35,7 @@ pub enum Measured {
 
 // What reading a drawing gives: number 0, its width, how many rectangles and the separators; or the
 // refusal.
-#[derive(Drop)]
+#[derive(Clone, Copy)]
 pub struct Outcome {
     pub number: usize,
     pub place: usize,

@@ -31,7 +31,7 @@ const RECT_SPACE: usize = 4096;
 const SLOT_SPACE: usize = 16384;
 
 // How many lines and bytes were written; or a refusal, of the reading or of the redrawing.
-#[derive(Drop)]
+#[derive(Clone, Copy)]
 pub enum SheetAnswer {
     Redrawn { lines: usize, bytes: usize },
     Unread { number: usize, place: usize },

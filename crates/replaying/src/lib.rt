@@ -172,7 +172,7 @@ fn unpack(field: &[u8], out: &mut [u8]) -> usize
 }
 
 // Where a field of a line starts and ends.
-#[derive(Drop)]
+#[derive(Clone, Copy)]
 pub struct Part {
     pub start: usize,
     pub end: usize,
@@ -346,7 +346,7 @@ const MAX_LINES: usize = 65536;
 
 // A whole line of the input: where it starts and ends in the buffer, how many bytes the buffer holds, and how many lines may be
 // read from it on, with it; 0 where there is none.
-#[derive(Drop)]
+#[derive(Clone, Copy)]
 pub struct Line {
     pub start: usize,
     pub end: usize,

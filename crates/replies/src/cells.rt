@@ -8,7 +8,7 @@ use cell::CellAnswer;
 // Number 0 is acceptance; then how many cut lines were written. A refusal has its number and place,
 // and 0 for the lines.
 #[repr(C)]
-#[derive(Drop)]
+#[derive(Clone, Copy)]
 pub struct CellReply {
     pub number: usize,
     pub place: usize,

@@ -8,7 +8,7 @@ use fragments::Cut;
 // Number 0 is acceptance; then the cut text is the part of the line from `start` to `end`, with its
 // line, byte and column. A refusal has its number and place, and 0 for the rest.
 #[repr(C)]
-#[derive(Drop)]
+#[derive(Clone, Copy)]
 pub struct CutReply {
     pub number: usize,
     pub place: usize,

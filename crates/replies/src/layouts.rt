@@ -8,7 +8,7 @@ use layout::LayoutAnswer;
 // Number 0 is acceptance; then the values are those of the call. A refusal has its number and
 // place, and 0 for the rest.
 #[repr(C)]
-#[derive(Drop)]
+#[derive(Clone, Copy)]
 pub struct LayoutReply {
     pub number: usize,
     pub place: usize,

@@ -9,7 +9,7 @@ use html_page::PageAnswer;
 // Number 0 is acceptance; then how many bytes the page has. A refusal has its number and place, and 0
 // for the bytes.
 #[repr(C)]
-#[derive(Drop)]
+#[derive(Clone, Copy)]
 pub struct PageReply {
     pub number: usize,
     pub place: usize,
@@ -35,7 +35,7 @@ pub fn page_reply(answer: PageAnswer) -> PageReply
 
 // A share in hundredths of a percent, and their quotient by 100.
 #[repr(C)]
-#[derive(Drop)]
+#[derive(Clone, Copy)]
 pub struct ShareReply {
     pub hundredths: u32,
     pub percent: f64,

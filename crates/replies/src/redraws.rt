@@ -8,7 +8,7 @@ use cm::draw::RedrawAnswer;
 // Number 0 is acceptance; then how many lines and bytes were written. A refusal has its number and
 // place, and 0 for the rest.
 #[repr(C)]
-#[derive(Drop)]
+#[derive(Clone, Copy)]
 pub struct RedrawReply {
     pub number: usize,
     pub place: usize,

@@ -8,7 +8,7 @@ use line_ends::{AddAnswer, FindAnswer, RemapAnswer};
 // Number 0 is acceptance; then how many ends the register holds. A refusal has its number and place,
 // and 0 for the count.
 #[repr(C)]
-#[derive(Drop)]
+#[derive(Clone, Copy)]
 pub struct AddReply {
     pub number: usize,
     pub place: usize,
@@ -35,7 +35,7 @@ pub fn add_reply(answer: AddAnswer) -> AddReply
 // Number 0 is acceptance; then `found` is 1 and `eol` that of the end, or both are 0 where none
 // reaches. A refusal has its number and place, and 0 for the rest.
 #[repr(C)]
-#[derive(Drop)]
+#[derive(Clone, Copy)]
 pub struct FindReply {
     pub number: usize,
     pub place: usize,
@@ -71,7 +71,7 @@ pub fn find_reply(answer: FindAnswer) -> FindReply
 // Number 0 is acceptance; then the end as it was moved. A refusal has its number and place, and 0 for
 // the rest.
 #[repr(C)]
-#[derive(Drop)]
+#[derive(Clone, Copy)]
 pub struct RemapReply {
     pub number: usize,
     pub place: usize,

@@ -23,7 +23,7 @@ const REGISTER_ROOM: usize = 1024;
 
 // Working space of the layout, cell, positions and table calls.
 #[repr(C)]
-#[derive(Drop)]
+#[derive(Clone, Copy)]
 pub struct ReadingSpace {
     pub glyphs: usize,
     pub offsets: usize,
@@ -50,7 +50,7 @@ pub fn reading_space() -> ReadingSpace
 
 // Working space of the redraw call.
 #[repr(C)]
-#[derive(Drop)]
+#[derive(Clone, Copy)]
 pub struct DrawingSpace {
     pub starts: usize,
     pub ends: usize,
@@ -77,7 +77,7 @@ pub fn drawing_space() -> DrawingSpace
 
 // The arrays of the layout call.
 #[repr(C)]
-#[derive(Drop)]
+#[derive(Clone, Copy)]
 pub struct LayoutRoom {
     pub columns: usize,
     pub rows: usize,
@@ -99,7 +99,7 @@ pub fn layout_room() -> LayoutRoom
 // The arrays of the table call, and those between the two steps of the call from a drawing to its
 // redrawing.
 #[repr(C)]
-#[derive(Drop)]
+#[derive(Clone, Copy)]
 pub struct TableRoom {
     pub columns: usize,
     pub sections: usize,
@@ -122,7 +122,7 @@ pub fn table_room() -> TableRoom
 
 // The arrays of the redraw call.
 #[repr(C)]
-#[derive(Drop)]
+#[derive(Clone, Copy)]
 pub struct DrawingRoom {
     pub lengths: usize,
     pub columns: usize,
@@ -141,7 +141,7 @@ pub fn drawing_room() -> DrawingRoom
 
 // The arrays of the positions call.
 #[repr(C)]
-#[derive(Drop)]
+#[derive(Clone, Copy)]
 pub struct PositionsRoom {
     pub rows: usize,
     pub cells: usize,

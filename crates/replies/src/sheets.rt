@@ -8,7 +8,7 @@ use redrawing::SheetAnswer;
 // Step 0 is acceptance; then how many lines and bytes were written. A refusal has its step, 1 for
 // reading and 2 for redrawing, its number and place, and 0 for the rest.
 #[repr(C)]
-#[derive(Drop)]
+#[derive(Clone, Copy)]
 pub struct SheetReply {
     pub step: usize,
     pub number: usize,

@@ -9,7 +9,7 @@ use positions::{CellPositionAnswer, PositionsAnswer};
 // Number 0 is acceptance; then the table's position, and how many rows and cells were written. A
 // refusal has its number and place, and 0 for the rest.
 #[repr(C)]
-#[derive(Drop)]
+#[derive(Clone, Copy)]
 pub struct PositionsReply {
     pub number: usize,
     pub place: usize,
@@ -51,7 +51,7 @@ pub fn positions_reply(answer: PositionsAnswer) -> PositionsReply
 // Number 0 is acceptance; then the cell's position. A refusal has its number and place, and 0 for
 // the rest.
 #[repr(C)]
-#[derive(Drop)]
+#[derive(Clone, Copy)]
 pub struct CellPositionReply {
     pub number: usize,
     pub place: usize,

@@ -8,7 +8,7 @@ use table::TableAnswer;
 // Number 0 is acceptance; then how many columns, rows, cells, lines and bytes were written. A refusal
 // has its number and place, and 0 for the rest.
 #[repr(C)]
-#[derive(Drop)]
+#[derive(Clone, Copy)]
 pub struct TableReply {
     pub number: usize,
     pub place: usize,

@@ -5,7 +5,7 @@
 
 // The column (row) lines in order, the first count entries of `lines`; and for each column (line)
 // how many of them come before it.
-#[derive(Drop)]
+#[derive(Clone, Copy)]
 pub struct Bounds {
     pub lines: [u8; 128],
     pub index: [u8; 128],
@@ -14,7 +14,7 @@ pub struct Bounds {
 
 // Head rows lie above line head, 0 where there is no Head; Foot rows from line foot on, 128 where
 // there is no Foot.
-#[derive(Drop)]
+#[derive(Clone, Copy)]
 pub struct Parts {
     pub head: usize,
     pub foot: usize,

@@ -12,7 +12,7 @@ use crate::lines::line_columns;
 use text::Column;
 
 // How many lines, up to the last that is not empty, and the columns of the widest.
-#[derive(Drop)]
+#[derive(Clone, Copy)]
 pub struct CellSize {
     pub lines: usize,
     pub columns: Column,

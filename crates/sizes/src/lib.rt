@@ -16,7 +16,7 @@ use crate::lines::trim_lines;
 
 // The column at which each column's left border stands and the line of each row's upper one, then
 // the last border's.
-#[derive(Drop)]
+#[derive(Clone, Copy)]
 pub struct Offsets {
     pub xs: [usize; 128],
     pub ys: [usize; 128],

@@ -9,14 +9,14 @@ pub mod reach;
 pub mod scan;
 
 // The part separators: the first count entries are their lines.
-#[derive(Drop)]
+#[derive(Clone, Copy)]
 pub struct Separators {
     pub lines: [u8; 128],
     pub count: usize,
 }
 
 // Whether every line fills the width, else the first that does not; and the separators.
-#[derive(Drop)]
+#[derive(Clone, Copy)]
 pub struct Filled {
     pub full: bool,
     pub place: usize,

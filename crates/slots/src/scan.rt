@@ -16,7 +16,7 @@ use utf8::several::{is_mark, is_three, is_two};
 pub const PLAIN: u8 = 255;
 
 // The columns that a line takes, or that it is not UTF-8 of the set.
-#[derive(Drop)]
+#[derive(Clone, Copy)]
 pub enum Scanned {
     Columns(Column),
     Outside,

@@ -32,7 +32,7 @@ const MAX_LINES: usize = 128;
 const MAX_CELLS: usize = 1024;
 
 // How many columns, rows, cells, lines and bytes were written; or a refusal.
-#[derive(Drop)]
+#[derive(Clone, Copy)]
 pub enum TableAnswer {
     Accepted {
         columns: usize,

@@ -7,7 +7,7 @@ ghost use Rattle.table_checks.specs.Places.{places_of, grid_in, Laid};
 ghost use Rattle.table_checks.specs.Skyline.{all_at, Raised};
 
 // A level for each column or row.
-#[derive(Drop)]
+#[derive(Clone, Copy)]
 pub struct Levels {
     pub each: [u8; 128],
 }

@@ -23,7 +23,7 @@ use crate::rules::keeps_rules;
 use reading::checks::{Place, first_outside};
 
 // What the checks find.
-#[derive(Drop)]
+#[derive(Clone, Copy)]
 pub enum Checked {
     Fine,
     Refused { number: usize, place: usize },

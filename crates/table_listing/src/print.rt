@@ -8,7 +8,7 @@ use numbers::least;
 use printing::{byte, cell_line, copy, entry, wide, words};
 
 // Where the next part goes, and how many bytes of the text were written.
-#[derive(Drop)]
+#[derive(Clone, Copy)]
 pub struct Written {
     pub at: usize,
     pub bytes: usize,

@@ -2,22 +2,22 @@
 #![tactic(auto)]
 
 // A place in a line, counted in bytes.
-#[derive(Drop)]
+#[derive(Clone, Copy)]
 pub struct ByteAt(pub usize);
 
 // A place on the screen, counted in columns.
-#[derive(Drop)]
+#[derive(Clone, Copy)]
 pub struct Column(pub usize);
 
 // How many columns a character takes: `width` of document 01's stand-in.
-#[derive(Drop)]
+#[derive(Clone, Copy)]
 pub enum Width {
     Columns(usize),
     Outside,
 }
 
 // The character at a place of a line with its size in bytes, or that none of the set stands there.
-#[derive(Drop)]
+#[derive(Clone, Copy)]
 pub enum Decoded {
     Character { value: u32, size: usize },
     Refused,

@@ -5,7 +5,7 @@ ghost use Rattle.trace.specs.Count.{number_of};
 
 use crate::Traced;
 
-#[derive(Drop)]
+#[derive(Clone, Copy)]
 pub struct Counted {
     pub number: usize,
     pub cells: usize,

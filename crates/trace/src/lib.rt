@@ -21,7 +21,7 @@ use crate::skyline::{Corner, Skyline};
 use representation::MAX_CELLS;
 
 // How many rectangles cover the grid, or the refusal that tracing meets.
-#[derive(Drop)]
+#[derive(Clone, Copy)]
 pub enum Traced {
     Covered(usize),
     Stopped(usize),

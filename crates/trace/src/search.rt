@@ -8,7 +8,7 @@ use numbers::least;
 use representation::{PLUS, STRIDE};
 
 // The first bordered rectangle at a corner, by its bottom line and right column.
-#[derive(Drop)]
+#[derive(Clone, Copy)]
 pub enum Found {
     At { bottom: usize, right: usize },
     Nothing,

@@ -4,13 +4,13 @@ ghost use Rattle.grid.specs.Trace.{stands_level, raise, lowest as lowest_of, lef
 ghost use Rattle.trace.specs.Skylines.{Sky, sky_of, FirstFrom};
 
 // One bottom line for each unit column: width less 1 of them.
-#[derive(Drop)]
+#[derive(Clone, Copy)]
 pub struct Skyline {
     pub bottoms: [u8; 127],
     pub used: usize,
 }
 
-#[derive(Drop)]
+#[derive(Clone, Copy)]
 pub struct Corner {
     pub top: usize,
     pub left: usize,

@@ -6,7 +6,7 @@ ghost use Rattle.text.specs.Utf8.{character, well_formed};
 use text::ByteAt;
 
 // A character and its size in bytes.
-#[derive(Drop)]
+#[derive(Clone, Copy)]
 pub struct Known {
     pub value: u32,
     pub size: usize,

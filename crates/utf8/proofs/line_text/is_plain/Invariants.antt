@@ -1,0 +1,13 @@
+-- `utf8::line_text::is_plain` meets its contract: the invariant: the whole line is plain where the bytes before i and those from i on are.
+use Prim.Native.Nat.{◌-◌, ◌≤◌}
+use mathlib.Core.Path.{◌≡◌}
+use mathlib.Core.Bool.{◌&&◌}
+use lib.ListN.{length, drop}
+use Rattle.text.specs.Utf8.{plain}
+use Rattle.utf8.proofs.line_text.is_plain.Given as goal
+
+abbrev pub invariant-loop-i : goal.invariant-loop-i
+invariant-loop-i l = (l.i ≤ length l.line) × (plain l.line ≡ (l.all && plain (drop l.i l.line)))
+
+abbrev pub decreases-loop-i : goal.decreases-loop-i
+decreases-loop-i l = length l.line - l.i

@@ -1,0 +1,6 @@
+-- `utf8::line_text::well_formed` meets its contract: a plain line is well formed.
+use Rattle.text.proofs.PlainLaws.{plain-well}
+use Rattle.utf8.proofs.line_text.well_formed.Goals as goal
+
+pub returns-then-is_plain : goal.returns-then-is_plain
+returns-then-is_plain c = search plain-well

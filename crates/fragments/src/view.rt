@@ -67,8 +67,8 @@ pub fn fragment_of<'a>(
 ) -> Fragment<'a>
     ensures { let given = line_of text.now column in
         let place = cut_place given line table_byte.0 (range start end) left.0 in
-        (result.text.ptr.0 ≡ text.entry.ref_ptr.0)
-        × (result.text.ptr.1 ≡ text.entry.ref_ptr.1 + cut_start given line table_byte.0 (range start end) left.0)
+        (result.text.ref_ptr.0 ≡ text.entry.ref_ptr.0)
+        × (result.text.ref_ptr.1 ≡ text.entry.ref_ptr.1 + cut_start given line table_byte.0 (range start end) left.0)
         × (result.text.now ≡ cut_text given line table_byte.0 (range start end) left.0)
         × (result.line ≡ line) × (result.byte ≡ place.byte) × (result.column ≡ place.column) }
 {

@@ -1,0 +1,10 @@
+-- `sizes::borders::offsets` meets its contract. The invariant: the offsets up to i are known.
+use Prim.Native.Nat.{◌-◌, ◌≤◌}
+use Rattle.sizes.proofs.borders.OffsetLaws.{Adding}
+use Rattle.sizes.proofs.borders.offsets.Given as goal
+
+abbrev pub invariant-loop-i : goal.invariant-loop-i
+invariant-loop-i l = (l.i ≤ l.count) × Adding l.count l.sizes l.at l.i
+
+abbrev pub decreases-loop-i : goal.decreases-loop-i
+decreases-loop-i l = l.count - l.i

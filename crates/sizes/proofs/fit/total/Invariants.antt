@@ -1,0 +1,10 @@
+-- `sizes::fit::total` meets its contract. The invariant: the first i sizes from `from` on are added.
+use Prim.Native.Nat.{◌-◌, ◌≤◌}
+use Rattle.sizes.proofs.fit.TotalLaws.{Totalling}
+use Rattle.sizes.proofs.fit.total.Given as goal
+
+abbrev pub invariant-loop-i : goal.invariant-loop-i
+invariant-loop-i l = (l.i ≤ l.span) × Totalling l.from l.span l.sizes l.sum l.i
+
+abbrev pub decreases-loop-i : goal.decreases-loop-i
+decreases-loop-i l = l.span - l.i

@@ -136,11 +136,10 @@ pub fn measure(
     requires fact { let sheet = source lengths.now columns.now text.now starts.now offsets.now in
         let rs = rects_of n rects.now in
         ((r : Rect) → Memᴰ r rs → Framed sheet r) }
-    ensures* { λ r.
-        let sheet = source lengths.now columns.now text.now starts.now offsets.now in
+    ensures { let sheet = source lengths.now columns.now text.now starts.now offsets.now in
         let rs = rects_of n rects.now in
-        ⌜ (r.lines ≡ length (all_lines sheet rs)) × (r.bytes ≡ length (join_text (all_lines sheet rs)))
-        × CountedBy (λ r. length (kept_lines sheet r)) rs counts.new × (r.bytes ≤ most_text) ⌝ }
+        (result.lines ≡ length (all_lines sheet rs)) × (result.bytes ≡ length (join_text (all_lines sheet rs)))
+        × CountedBy (λ r. length (kept_lines sheet r)) rs counts.new × (result.bytes ≤ most_text) }
 {
     let mut lines = 0;
     let mut bytes = 0;

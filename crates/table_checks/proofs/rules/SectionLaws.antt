@@ -59,6 +59,7 @@ run-codes (a ∷ b ∷ l) e =
 -- the codes of rising rows rise
 first-lowest : (a : ℕ) (l : List ℕ) → neighbours leb (a ∷ l) ≡ true → {x : ℕ} → Memᴰ x l → a ≤ x
 unfolding neighbours
+first-lowest a [] e x4 = elim x4 [ ]
 first-lowest a (b ∷ l) e (Memᴰ.head q) = rw q (leb-true a b (and_left (leb a b) (neighbours leb (b ∷ l)) e))
 first-lowest a (b ∷ l) e (Memᴰ.tail m) =
     le_trans (leb-true a b (and_left (leb a b) (neighbours leb (b ∷ l)) e)) (first-lowest b l (and_right (leb a b) (neighbours leb (b ∷ l)) e) m)

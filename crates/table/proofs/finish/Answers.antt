@@ -38,7 +38,7 @@ returns-then-short c =
 pub write_table-requires : goal.write_table-requires
 write_table-requires c =
     finish-writable c.requires.traced_sheet c.row_bounds-tops.ensures c.col_bounds-lefts.ensures c.prepare-size.ensures
-    (arrays c.args.cols.now c.args.sections.now c.args.cells.now c.args.out-lengths.now c.args.out-text.now)
+    (arrays c.args.cols.now c.args.sections.now c.args.cells.now c.args.out_lengths.now c.args.out_text.now)
     (sym c.lacks_room-short.ensures ∙ c.if-short.false)
 
 pub returns : goal.returns

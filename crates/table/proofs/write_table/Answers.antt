@@ -22,13 +22,13 @@ pub write_sections-requires : goal.write_sections-requires
 write_sections-requires c = search (rules, writable-rows-rise, writable-some-row)
 
 pub write_table_cells-requires-clause-n_bound : goal.write_table_cells-requires-clause-n_bound
-write_table_cells-requires-clause-n_bound c = search writable-cells
+write_table_cells-requires-clause-n_bound c = (writable-cells c.requires).0
 
 pub write_table_cells-requires-clause-index_len : goal.write_table_cells-requires-clause-index_len
-write_table_cells-requires-clause-index_len c = search writable-cells
+write_table_cells-requires-clause-index_len c = (writable-cells c.requires).1.0
 
 pub write_table_cells-requires-clause-numbered : goal.write_table_cells-requires-clause-numbered
-write_table_cells-requires-clause-numbered c = search writable-cells
+write_table_cells-requires-clause-numbered c = (writable-cells c.requires).1.1
 
 pub write_text-requires-clause-source_ready : goal.write_text-requires-clause-source_ready
 write_text-requires-clause-source_ready c = (writable-text c.requires).0

@@ -26,7 +26,7 @@ write_sizes-requires-clause-height_bound c =
 
 pub write_sizes-requires-clause-height_in_bounds : goal.write_sizes-requires-clause-height_in_bounds
 write_sizes-requires-clause-height_in_bounds c =
-    let C = c.count_lines-sizes.ensures c.requires.0 c.requires.1 c.requires.2 in room-left _ _ (length c.args.out-text.now) _ c.count_lines-sizes.result.bytes c.if-out_lengths-height.false
+    let C = c.count_lines-sizes.ensures c.requires.0 c.requires.1 c.requires.2 in room-left _ _ (length c.args.out_text.now) _ c.count_lines-sizes.result.bytes c.if-out_lengths-height.false
 
 pub write_lines-requires : goal.write_lines-requires
 write_lines-requires c = c.requires

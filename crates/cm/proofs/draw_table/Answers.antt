@@ -1,4 +1,5 @@
 -- `cm::draw_table` meets its contract: 9, 10, and the drawing of the table as measured.
+use mathlib.Core.List.{[]}
 use Rattle.drawing.specs.RedrawCall.{drawing_lent}
 use Rattle.sizes.proofs.FactLaws.{tabled-facts}
 use Rattle.alignment.proofs.AlignmentLaws.{tabled-markable}

@@ -95,5 +95,6 @@ module _ (g : Grid) where
     inner-cells c m = go rs (λ r n. inner-rect r n) m where
       go : (qs : List Rect) → ((r : Rect) → Memᴰ r qs → inner_height (flat_map row_numbers (rows_read g rs) ++ rest) (cell_read g rs r).row (cell_read g rs r).rowspan ≡ length (cell_read g rs r).content)
           → Memᴰ c (map (cell_read g rs) qs) → inner_height (flat_map row_numbers (rows_read g rs) ++ rest) c.row c.rowspan ≡ length c.content
+      go [] all m' = elim m' [ ]
       go (q ∷ qs) all (Memᴰ.head e) = rw e (all q (Memᴰ.head refl))
       go (q ∷ qs) all (Memᴰ.tail n) = go qs (λ r k. all r (Memᴰ.tail k)) n

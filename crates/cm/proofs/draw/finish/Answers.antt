@@ -1,4 +1,5 @@
 -- `cm::draw::finish` meets its contract: drawn size (2), 11, 12 and the drawing, in the order of the definition.
+use mathlib.Core.List.{[]}
 use lib.ListN.{length}
 use Rattle.drawing.specs.RedrawCall.{drawing_lent}
 use Rattle.cm.proofs.draw.LateLaws.{room-left, height-low, late-large, lengths_short, late-split, late-short, late-drawn}

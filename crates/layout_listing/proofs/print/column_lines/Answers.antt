@@ -1,0 +1,13 @@
+use borrow.Author.Rules.{rules}
+use Prim.Native.Nat.{◌-◌}
+use Rattle.layout_listing.proofs.print.LineLaws.{columns-none, columns-put, columns-all}
+use Rattle.layout_listing.proofs.print.column_lines.Goals as goal
+
+pub loop-i-init : goal.loop-i-init
+loop-i-init c = search (rules, columns-none)
+
+pub loop-i-preserved : goal.loop-i-preserved
+loop-i-preserved c = search (rules, columns-put)
+
+pub returns : goal.returns
+returns c = search columns-all

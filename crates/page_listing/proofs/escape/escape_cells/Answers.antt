@@ -1,6 +1,7 @@
 use borrow.Author.Rules.{rules}
 use Rattle.page_listing.proofs.escape.CellLaws.{cells-none, lines-within, text-within, cell-asked, cell-past, text-next, cell-next, cells-all}
-use Prim.Native.Nat.{◌-◌}
+use Prim.Native.Nat.{◌+◌, ◌*◌, ◌≤◌}
+use lib.ListN.{get_or}
 use native.Mathlib.Omega.{arith}
 use Rattle.page_listing.proofs.escape.escape_cells.Goals as goal
 
@@ -8,10 +9,12 @@ pub loop-k-init : goal.loop-k-init
 loop-k-init c = cells-none _ _ _ _ _ _ c.requires.n_bound c.requires.lengths_len_bound c.requires.n_in_bounds
 
 pub overflow_add-stop-in-loop-k : goal.overflow_add-stop-in-loop-k
-overflow_add-stop-in-loop-k c = search (rules, (omega (arith, lines-within _ _ _ _ _ _ c.loop-k.invariant c.loop-k-test.true, c.loop-k.invariant.lines_given)))
+overflow_add-stop-in-loop-k c =
+    let within : c.loop-k.line + get_or c.args.cells.now (5 * c.loop-k.k + 4) 0 ≤ 16384 = omega (arith, lines-within _ _ _ _ _ _ c.loop-k.invariant c.loop-k-test.true, c.loop-k.invariant.lines_given) in search rules
 
 pub offset_bounds-lengths-line : goal.offset_bounds-lengths-line
-offset_bounds-lengths-line c = search (rules, (omega (arith, lines-within _ _ _ _ _ _ c.loop-k.invariant c.loop-k-test.true, c.loop-k.invariant.lines_given)))
+offset_bounds-lengths-line c =
+    let within : c.loop-k.line + get_or c.args.cells.now (5 * c.loop-k.k + 4) 0 ≤ 16384 = omega (arith, lines-within _ _ _ _ _ _ c.loop-k.invariant c.loop-k-test.true, c.loop-k.invariant.lines_given) in search rules
 
 pub slice_bounds-escape_lines-end : goal.slice_bounds-escape_lines-end
 slice_bounds-escape_lines-end c = lines-within _ _ _ _ _ _ c.loop-k.invariant c.loop-k-test.true

@@ -18,7 +18,7 @@ pub returns-then-size-gt32768 : goal.returns-then-size-gt32768
 returns-then-size-gt32768 c = large-paged _ _ c.requires.t_value _ c.requires.t_value_2 _ _ _ c.escape_cells-size.ensures c.if-size-gt32768.true c.refused.ensures
 
 pub refused-requires-in-Refused : goal.refused-requires-in-Refused
-refused-requires-in-Refused c = search (rules, c.page.kept, c.requires.n_bound.3)
+refused-requires-in-Refused c = search (rules, c.page.auto, c.requires.n_bound.3)
 
 pub returns-in-Refused : goal.returns-in-Refused
 returns-in-Refused c =

@@ -4,10 +4,12 @@ use borrow.Author.Rules.{rules}
 use Rattle.redraw_listing.proofs.lines.redraw_table.Goals as goal
 
 pub slice_bounds-print_lines-end : goal.slice_bounds-print_lines-end
-slice_bounds-print_lines-end c = search (rules, (let held = drawing-held _ _ _ _ c.draw_lines.ensures _ _ c.drawn-1.given.1 in (held.0, held.1)))
+slice_bounds-print_lines-end c =
+    let held = drawing-held _ _ _ _ c.draw_lines.ensures _ _ c.in-Accepted.is in search (rules, held.0, held.1)
 
 pub slice_bounds-print_lines-end-in-Accepted : goal.slice_bounds-print_lines-end-in-Accepted
-slice_bounds-print_lines-end-in-Accepted c = search (rules, (let held = drawing-held _ _ _ _ c.draw_lines.ensures _ _ c.in-Accepted.is in (held.0, held.1)))
+slice_bounds-print_lines-end-in-Accepted c =
+    let held = drawing-held _ _ _ _ c.draw_lines.ensures _ _ c.in-Accepted.is in search (rules, held.0, held.1)
 
 pub print_lines-requires : goal.print_lines-requires
 print_lines-requires c =

@@ -3,7 +3,7 @@
 // What reads or prints fails where standard input or output does, with the same error.
 #![tactic(auto)]
 
-ghost use Rattle.std.specs.Prelude.{◌≤◌, ◌<◌, ◌≡◌, IfOk, length};
+ghost use Rattle.std.specs.Prelude.{◌≤◌, ◌<◌, ◌≡◌, IfOk, OnErr, length};
 
 use numbers::least;
 use std::io;
@@ -410,15 +410,19 @@ fn line_from(
     Ok(line_at(0, find(&buffer[0..all], 0, b'\n'), all, left))
 }
 
+// After an error the buffer holds no line, and any bytes.
 pub fn first_line(stdin: &mut impl Read, buffer: &mut [u8]) -> io::Result<Line>
-    ensures { IfOk result (λ line. (line.start ≤ line.end) × (line.end ≤ line.held) × (line.held ≤ length buffer.new)) }
+    ensures err { OnErr result (length buffer.new ≡ length buffer.old) }
+    ensures ok { IfOk result (λ line. (line.start ≤ line.end) × (line.end ≤ line.held) × (line.held ≤ length buffer.new)) }
 {
     line_from(stdin, buffer, 0, 0, MAX_LINES)
 }
 
+// Likewise after an error.
 pub fn next_line(stdin: &mut impl Read, buffer: &mut [u8], line: Line) -> io::Result<Line>
     requires { (line.end ≤ line.held) × (line.held ≤ length buffer.old) × (0 < line.left) }
-    ensures { IfOk result (λ next. (next.start ≤ next.end) × (next.end ≤ next.held) × (next.held ≤ length buffer.new)
+    ensures err { OnErr result (length buffer.new ≡ length buffer.old) }
+    ensures ok { IfOk result (λ next. (next.start ≤ next.end) × (next.end ≤ next.held) × (next.held ≤ length buffer.new)
         × (next.left < line.left)) }
 {
     let from = least(line.end + 1, line.held);

@@ -4,6 +4,9 @@
 
 ghost use Rattle.input.specs.Within.{Within};
 
+use std::env::{Env, FillError};
+use std::io::Read;
+
 #[derive(Clone, Copy)]
 pub enum Input {
     Bytes(usize),
@@ -11,16 +14,14 @@ pub enum Input {
 }
 
 // Reads until the buffer is full or the input ends.
-pub fn read_input(buffer: &mut [u8]) -> Input
+pub fn read_input(stdin: &mut impl Read, buffer: &mut [u8]) -> Input
     ensures { Within buffer.new result }
 {
     let mut n = 0;
     while n < buffer.len() {
-        let got = libc::read(libc::STDIN_FILENO, &mut buffer[n..]);
-        if got < 0 {
+        let Ok(more) = stdin.read(&mut buffer[n..]) else {
             return Input::Failed;
-        }
-        let more = io::count(got, &buffer[n..]);
+        };
         if more == 0 {
             return Input::Bytes(n);
         }
@@ -29,16 +30,22 @@ pub fn read_input(buffer: &mut [u8]) -> Input
     Input::Bytes(n)
 }
 
+// Whether the program was given an argument of this number; its name is number 0.
+fn has_argument(rt: &impl Env, i: usize) -> bool {
+    let mut word = [0u8; 32];
+    !matches!(rt.arg(i, &mut word), Err(FillError::NotPresent))
+}
+
 // The sheet that the program of this name works on. Where there is none it has said why.
-pub fn read_sheet(name: &[u8], buffer: &mut [u8]) -> Input
+pub fn read_sheet(rt: &HostRuntime, name: &[u8], buffer: &mut [u8]) -> Input
     ensures { Within buffer.new result }
 {
     // Whoever names a file must not be left waiting for standard input.
-    if os::arg_count() > 1 {
-        say(b"usage: ", name, b" < SHEET\n");
+    if has_argument(rt, 1) {
+        say(rt, b"usage: ", name, b" < SHEET\n");
         return Input::Failed;
     }
-    read_bytes(name, buffer)
+    read_bytes(rt, name, buffer)
 }
 
 // Whether a program has its one option.
@@ -50,34 +57,36 @@ pub enum Choice {
 }
 
 // What the arguments of a program with this one option choose.
-pub fn read_choice(option: &[u8]) -> Choice {
-    let count = os::arg_count();
-    if count <= 1 {
+pub fn read_choice(rt: &impl Env, option: &[u8]) -> Choice {
+    if !has_argument(rt, 1) {
         return Choice::Off;
     }
     // A word that does not fit is read as none.
     let mut word = [0u8; 32];
-    let n = os::arg(1, &mut word);
-    if (count == 2) & check::same(&word[0..n], option) {
+    let n = match rt.arg(1, &mut word) {
+        Ok(n) => n,
+        Err(_) => 0,
+    };
+    if !has_argument(rt, 2) & (&word[0..n] == option) {
         return Choice::On;
     }
     Choice::Other
 }
 
 // A line of usage of the program of this name and option.
-pub fn say_usage(name: &[u8], option: &[u8]) {
-    say(b"usage: ", name, b" [");
-    say(b"", option, b"] < SHEET\n");
+pub fn say_usage(rt: &HostRuntime, name: &[u8], option: &[u8]) {
+    say(rt, b"usage: ", name, b" [");
+    say(rt, b"", option, b"] < SHEET\n");
 }
 
 // The bytes of the sheet, or a line that there are none.
-pub fn read_bytes(name: &[u8], buffer: &mut [u8]) -> Input
+pub fn read_bytes(rt: &HostRuntime, name: &[u8], buffer: &mut [u8]) -> Input
     ensures { Within buffer.new result }
 {
-    let input = read_input(buffer);
+    let input = read_input(&mut rt.stdin(), buffer);
     match input {
         Input::Failed => {
-            say(b"", name, b": input cannot be read\n");
+            say(rt, b"", name, b": input cannot be read\n");
         }
         Input::Bytes(_) => {}
     }
@@ -85,15 +94,15 @@ pub fn read_bytes(name: &[u8], buffer: &mut [u8]) -> Input
 }
 
 // Writes the result of the program of this name, or says that it cannot be written.
-pub fn write_result(name: &[u8], res: &[u8]) {
-    if !io::write_all(libc::STDOUT_FILENO, res) {
-        say(b"", name, b": output cannot be written\n");
+pub fn write_result(rt: &HostRuntime, name: &[u8], res: &[u8]) {
+    if rt.stdout().write_all(res).is_err() {
+        say(rt, b"", name, b": output cannot be written\n");
     }
 }
 
-// A line about the program of this name.
-fn say(before: &[u8], name: &[u8], after: &[u8]) {
-    io::write_all(libc::STDERR_FILENO, before);
-    io::write_all(libc::STDERR_FILENO, name);
-    io::write_all(libc::STDERR_FILENO, after);
+// A line about the program of this name. Where standard error takes none, nobody is left to be told.
+fn say(rt: &HostRuntime, before: &[u8], name: &[u8], after: &[u8]) {
+    let _ = rt.stderr().write_all(before);
+    let _ = rt.stderr().write_all(name);
+    let _ = rt.stderr().write_all(after);
 }

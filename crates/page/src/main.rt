@@ -4,22 +4,22 @@
 
 use input::{Choice, Input};
 
-fn main() {
-    match input::read_choice(b"--widths") {
-        Choice::Other => input::say_usage(b"page", b"--widths"),
-        Choice::Off => print(false),
-        Choice::On => print(true),
+fn main(rt: HostRuntime) {
+    match input::read_choice(&rt, b"--widths") {
+        Choice::Other => input::say_usage(&rt, b"page", b"--widths"),
+        Choice::Off => print(&rt, false),
+        Choice::On => print(&rt, true),
     }
 }
 
-fn print(widths: bool) {
+fn print(rt: &HostRuntime, widths: bool) {
     // One byte more than the longest drawing, 32,768 bytes of text and 128 line feeds: as many
     // pass a limit, whatever follows.
     let mut sheet = [0u8; 32897];
-    let Input::Bytes(n) = input::read_bytes(b"page", &mut sheet) else {
+    let Input::Bytes(n) = input::read_bytes(rt, b"page", &mut sheet) else {
         return;
     };
     let mut out = [0u8; 196608];
     let end = page_listing::print_page(widths, &sheet[0..n], &mut out);
-    input::write_result(b"page", &out[0..end]);
+    input::write_result(rt, b"page", &out[0..end]);
 }

@@ -1,8 +1,8 @@
 // The cases of line ends.
-use libc::STDOUT_FILENO;
 use line_ends::{AddAnswer, FindAnswer, RemapAnswer};
 use replaying::{number_field, print, print_list, print_refused, word_field, words_field};
 use sourcepos::CellLineEnd;
+use std::io;
 
 fn end_fields(case: &[u8]) -> CellLineEnd {
     CellLineEnd {
@@ -12,49 +12,62 @@ fn end_fields(case: &[u8]) -> CellLineEnd {
     }
 }
 
-fn print_added(answer: AddAnswer) {
+fn print_added(rt: &impl Print, answer: AddAnswer) -> io::Result<()> {
     match answer {
-        AddAnswer::Refused { number, place } => print_refused(number, place),
+        AddAnswer::Refused { number, place } => print_refused(rt, number, place),
         AddAnswer::Accepted(count) => {
-            io::write_all(STDOUT_FILENO, b"accepted");
-            print(count);
+            rt.write_all(b"accepted")?;
+            print(rt, count)
         }
     }
 }
 
 // The answer, and the register afterwards.
-fn add(case: &[u8], lines: &mut [u32], starts: &mut [u32], eols: &mut [u32]) {
+fn add(
+    rt: &impl Print,
+    case: &[u8],
+    lines: &mut [u32],
+    starts: &mut [u32],
+    eols: &mut [u32],
+) -> io::Result<()> {
     let count = number_field(case, 4);
-    print_added(line_ends::add(count, lines, starts, eols, end_fields(case)));
-    print_list(lines);
-    print_list(starts);
-    print_list(eols);
+    print_added(
+        rt,
+        line_ends::add(count, lines, starts, eols, end_fields(case)),
+    )?;
+    print_list(rt, lines)?;
+    print_list(rt, starts)?;
+    print_list(rt, eols)
 }
 
-pub fn answer_add(case: &[u8]) {
+pub fn answer_add(rt: &impl Print, case: &[u8]) -> io::Result<()> {
     let mut lines = [0u32; 2048];
     let i = words_field(case, 5, &mut lines);
     let mut starts = [0u32; 2048];
     let j = words_field(case, 6, &mut starts);
     let mut eols = [0u32; 2048];
     let k = words_field(case, 7, &mut eols);
-    add(case, &mut lines[0..i], &mut starts[0..j], &mut eols[0..k]);
+    add(
+        rt,
+        case,
+        &mut lines[0..i],
+        &mut starts[0..j],
+        &mut eols[0..k],
+    )
 }
 
-fn print_found(answer: FindAnswer) {
+fn print_found(rt: &impl Print, answer: FindAnswer) -> io::Result<()> {
     match answer {
-        FindAnswer::Refused { number, place } => print_refused(number, place),
+        FindAnswer::Refused { number, place } => print_refused(rt, number, place),
         FindAnswer::Found(eol) => {
-            io::write_all(STDOUT_FILENO, b"found");
-            print(eol as usize);
+            rt.write_all(b"found")?;
+            print(rt, eol as usize)
         }
-        FindAnswer::None => {
-            io::write_all(STDOUT_FILENO, b"none");
-        }
+        FindAnswer::None => rt.write_all(b"none"),
     }
 }
 
-pub fn answer_find(case: &[u8]) {
+pub fn answer_find(rt: &impl Print, case: &[u8]) -> io::Result<()> {
     let mut lines = [0u32; 2048];
     let i = words_field(case, 4, &mut lines);
     let mut starts = [0u32; 2048];
@@ -69,27 +82,27 @@ pub fn answer_find(case: &[u8]) {
         word_field(case, 1),
         word_field(case, 2),
     );
-    print_found(answer);
+    print_found(rt, answer)
 }
 
-fn print_remapped(answer: RemapAnswer) {
+fn print_remapped(rt: &impl Print, answer: RemapAnswer) -> io::Result<()> {
     match answer {
-        RemapAnswer::Refused { number, place } => print_refused(number, place),
+        RemapAnswer::Refused { number, place } => print_refused(rt, number, place),
         RemapAnswer::Accepted(end) => {
-            io::write_all(STDOUT_FILENO, b"accepted");
-            print(end.line as usize);
-            print(end.start as usize);
-            print(end.eol as usize);
+            rt.write_all(b"accepted")?;
+            print(rt, end.line as usize)?;
+            print(rt, end.start as usize)?;
+            print(rt, end.eol as usize)
         }
     }
 }
 
-pub fn answer_remap(case: &[u8]) {
+pub fn answer_remap(rt: &impl Print, case: &[u8]) -> io::Result<()> {
     let mut lines = [0u32; 2048];
     let i = words_field(case, 5, &mut lines);
     let mut bytes = [0u32; 2048];
     let j = words_field(case, 6, &mut bytes);
     let count = number_field(case, 4);
     let end = end_fields(case);
-    print_remapped(line_ends::remap(count, &lines[0..i], &bytes[0..j], end));
+    print_remapped(rt, line_ends::remap(count, &lines[0..i], &bytes[0..j], end))
 }

@@ -31,37 +31,39 @@ mod places;
 use crate::ends::{answer_add, answer_find, answer_remap};
 use crate::pages::{answer_page, answer_share};
 use crate::places::answer_placed;
-use libc::STDOUT_FILENO;
 use replaying::{first_line, next_line};
+use std::io;
+use std::io::Read;
 
-fn answer_case(case: &[u8]) {
+fn answer_case(rt: &impl Print, case: &[u8]) -> io::Result<()> {
     if case.len() == 0 {
-        return;
+        return Ok(());
     }
     match case[0] {
-        b'p' => answer_placed(case, false),
-        b'c' => answer_placed(case, true),
-        b'a' => answer_add(case),
-        b'f' => answer_find(case),
-        b'm' => answer_remap(case),
-        b's' => answer_share(case),
-        b'g' => answer_page(case),
+        b'p' => answer_placed(rt, case, false)?,
+        b'c' => answer_placed(rt, case, true)?,
+        b'a' => answer_add(rt, case)?,
+        b'f' => answer_find(rt, case)?,
+        b'm' => answer_remap(rt, case)?,
+        b's' => answer_share(rt, case)?,
+        b'g' => answer_page(rt, case)?,
         _ => {}
     }
-    io::write_all(STDOUT_FILENO, b"\n");
+    rt.write_all(b"\n")
 }
 
-fn answer_all(buffer: &mut [u8]) {
-    let mut line = first_line(buffer);
+fn answer_all(rt: &impl Print, stdin: &mut impl Read, buffer: &mut [u8]) -> io::Result<()> {
+    let mut line = first_line(stdin, buffer)?;
     while 0 < line.left {
         let start = line.start;
         let end = line.end;
-        answer_case(&buffer[start..end]);
-        line = next_line(buffer, line);
+        answer_case(rt, &buffer[start..end])?;
+        line = next_line(stdin, buffer, line)?;
     }
+    Ok(())
 }
 
-fn main() {
-    let mut buffer = io::large_buffer();
-    answer_all(&mut buffer);
+fn main(rt: HostRuntime) -> io::Result<()> {
+    let mut buffer = [0u8; 65536];
+    answer_all(&rt, &mut rt.stdin(), &mut buffer)
 }

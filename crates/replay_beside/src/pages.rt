@@ -3,12 +3,12 @@ ghost use Rattle.std.specs.Prelude.{◌≤◌, length};
 
 use html_page::PageAnswer;
 use html_page::share::share_of;
-use libc::STDOUT_FILENO;
 use numbers::least;
 use replaying::{
     half_word, number_field, numbers_field, print, print_digits, print_refused, text_field,
     word_field,
 };
+use std::io;
 
 fn is_plain(b: u8) -> bool {
     (32 <= b) & (b < 127) & (b != b'\\')
@@ -29,44 +29,46 @@ fn plain_end(bytes: &[u8], from: usize) -> usize
     i
 }
 
-fn print_code(b: u8) {
-    io::write_all(STDOUT_FILENO, b"\\");
-    io::print_hex(STDOUT_FILENO, b as u64, 2);
+fn print_code(rt: &impl Print, b: u8) -> io::Result<()> {
+    rt.write_all(b"\\")?;
+    print!(rt; "{b:02x}")
 }
 
-fn print_escaped(bytes: &[u8]) {
+fn print_escaped(rt: &impl Print, bytes: &[u8]) -> io::Result<()> {
     let mut at = 0;
     while at < bytes.len() {
         let end = plain_end(bytes, at);
-        io::write_all(STDOUT_FILENO, &bytes[at..end]);
+        rt.write_all(&bytes[at..end])?;
         if end < bytes.len() {
-            print_code(bytes[end]);
+            print_code(rt, bytes[end])?;
         }
         at = end + 1;
     }
+    Ok(())
 }
 
-fn print_page(answer: PageAnswer, page: &[u8]) {
+fn print_page(rt: &impl Print, answer: PageAnswer, page: &[u8]) -> io::Result<()> {
     match answer {
-        PageAnswer::Refused { number, place } => print_refused(number, place),
+        PageAnswer::Refused { number, place } => print_refused(rt, number, place),
         PageAnswer::Accepted(bytes) => {
-            io::write_all(STDOUT_FILENO, b"accepted");
-            print(bytes);
-            io::write_all(STDOUT_FILENO, b" ");
+            rt.write_all(b"accepted")?;
+            print(rt, bytes)?;
+            rt.write_all(b" ")?;
             let end = least(bytes, page.len());
-            print_escaped(&page[0..end]);
+            print_escaped(rt, &page[0..end])
         }
     }
 }
 
 fn answer(
+    rt: &impl Print,
     case: &[u8],
     cols: &[u16],
     sections: &[u8],
     cells: &[u16],
     inner: &[u8],
     page: &mut [u8],
-) {
+) -> io::Result<()> {
     let answer = html_page::page(
         number_field(case, 1) == 1,
         number_field(case, 2),
@@ -79,10 +81,10 @@ fn answer(
         inner,
         page,
     );
-    print_page(answer, page);
+    print_page(rt, answer, page)
 }
 
-pub fn answer_page(case: &[u8]) {
+pub fn answer_page(rt: &impl Print, case: &[u8]) -> io::Result<()> {
     let mut cols = [0u16; 512];
     let i = numbers_field(case, 6, &mut cols);
     let mut sections = [0u8; 512];
@@ -94,18 +96,20 @@ pub fn answer_page(case: &[u8]) {
     let mut page = [0u8; 65536];
     let room = least(number_field(case, 10), 65536);
     answer(
+        rt,
         case,
         &cols[0..i],
         &sections[0..j],
         &cells[0..k],
         &inner[0..n],
         &mut page[0..room],
-    );
+    )
 }
 
-pub fn answer_share(case: &[u8]) {
+pub fn answer_share(rt: &impl Print, case: &[u8]) -> io::Result<()> {
     let share = share_of(half_word(word_field(case, 1)), word_field(case, 2));
-    print_digits(share.hundredths as usize);
-    io::write_all(STDOUT_FILENO, b" ");
-    io::print_hex(STDOUT_FILENO, f64::to_bits(share.percent), 16);
+    print_digits(rt, share.hundredths as usize)?;
+    rt.write_all(b" ")?;
+    let bits = f64::to_bits(share.percent);
+    print!(rt; "{bits:016x}")
 }

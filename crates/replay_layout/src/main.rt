@@ -11,16 +11,24 @@
 #![tactic(auto)]
 
 use layout::LayoutAnswer;
-use libc::STDOUT_FILENO;
 use numbers::least;
 use replaying::{
     first_line, next_line, number_field, numbers_field, print, print_entries, print_refused, space,
     text_field,
 };
+use std::io;
+use std::io::Read;
 
-fn print_answer(answer: LayoutAnswer, cols: &[u16], rows: &[u16], cells: &[u16], ranges: &[u16]) {
+fn print_answer(
+    rt: &impl Print,
+    answer: LayoutAnswer,
+    cols: &[u16],
+    rows: &[u16],
+    cells: &[u16],
+    ranges: &[u16],
+) -> io::Result<()> {
     match answer {
-        LayoutAnswer::Refused { number, place } => print_refused(number, place),
+        LayoutAnswer::Refused { number, place } => print_refused(rt, number, place)?,
         LayoutAnswer::Accepted {
             width,
             columns: across,
@@ -28,30 +36,31 @@ fn print_answer(answer: LayoutAnswer, cols: &[u16], rows: &[u16], cells: &[u16],
             cells: count,
             ranges: inner,
         } => {
-            io::write_all(STDOUT_FILENO, b"accepted");
-            print(width.0);
-            print(across);
-            print(down);
-            print(count);
-            print(inner);
-            print_entries(cols, 2 * least(across, 127));
-            print_entries(rows, 3 * least(down, 127));
-            print_entries(cells, 5 * least(count, 1024));
-            print_entries(ranges, 2 * least(inner, 16384));
+            rt.write_all(b"accepted")?;
+            print(rt, width.0)?;
+            print(rt, across)?;
+            print(rt, down)?;
+            print(rt, count)?;
+            print(rt, inner)?;
+            print_entries(rt, cols, 2 * least(across, 127))?;
+            print_entries(rt, rows, 3 * least(down, 127))?;
+            print_entries(rt, cells, 5 * least(count, 1024))?;
+            print_entries(rt, ranges, 2 * least(inner, 16384))?;
         }
     }
-    io::write_all(STDOUT_FILENO, b"\n");
+    rt.write_all(b"\n")
 }
 
 // The output arrays hold the largest results.
 fn answer(
+    rt: &impl Print,
     lines: usize,
     bytes: usize,
     lengths: &[u16],
     columns: &[u16],
     text: &[u8],
     spaces: &[u16],
-) {
+) -> io::Result<()> {
     let mut glyphs = [0u8; 16384];
     let mut offsets = [0u16; 16384];
     let mut down = [0u8; 16384];
@@ -77,10 +86,10 @@ fn answer(
         &mut cells[0..space(spaces, 7, 5120)],
         &mut ranges[0..space(spaces, 8, 32768)],
     );
-    print_answer(answer, &cols, &rows, &cells, &ranges);
+    print_answer(rt, answer, &cols, &rows, &cells, &ranges)
 }
 
-fn answer_line(line: &[u8]) {
+fn answer_line(rt: &impl Print, line: &[u8]) -> io::Result<()> {
     let mut lengths = [0u16; 256];
     let n = numbers_field(line, 2, &mut lengths);
     let mut columns = [0u16; 256];
@@ -90,26 +99,28 @@ fn answer_line(line: &[u8]) {
     let mut spaces = [0u16; 9];
     let s = numbers_field(line, 5, &mut spaces);
     answer(
+        rt,
         number_field(line, 0),
         number_field(line, 1),
         &lengths[0..n],
         &columns[0..m],
         &text[0..k],
         &spaces[0..s],
-    );
+    )
 }
 
-fn answer_all(buffer: &mut [u8]) {
-    let mut line = first_line(buffer);
+fn answer_all(rt: &impl Print, stdin: &mut impl Read, buffer: &mut [u8]) -> io::Result<()> {
+    let mut line = first_line(stdin, buffer)?;
     while 0 < line.left {
         let start = line.start;
         let end = line.end;
-        answer_line(&buffer[start..end]);
-        line = next_line(buffer, line);
+        answer_line(rt, &buffer[start..end])?;
+        line = next_line(stdin, buffer, line)?;
     }
+    Ok(())
 }
 
-fn main() {
-    let mut buffer = io::large_buffer();
-    answer_all(&mut buffer);
+fn main(rt: HostRuntime) -> io::Result<()> {
+    let mut buffer = [0u8; 65536];
+    answer_all(&rt, &mut rt.stdin(), &mut buffer)
 }

@@ -12,32 +12,40 @@
 #![tactic(auto)]
 
 use cm::draw::RedrawAnswer;
-use libc::STDOUT_FILENO;
 use numbers::least;
 use replaying::{
     first_line, next_line, number_field, numbers_field, print, print_entries, print_refused, space,
     text_field,
 };
+use std::io;
+use std::io::Read;
 
-fn print_answer(answer: RedrawAnswer, lengths: &[u16], columns: &[u16], text: &[u8]) {
+fn print_answer(
+    rt: &impl Print,
+    answer: RedrawAnswer,
+    lengths: &[u16],
+    columns: &[u16],
+    text: &[u8],
+) -> io::Result<()> {
     match answer {
-        RedrawAnswer::Refused { number, place } => print_refused(number, place),
+        RedrawAnswer::Refused { number, place } => print_refused(rt, number, place)?,
         RedrawAnswer::Accepted { lines, bytes } => {
-            io::write_all(STDOUT_FILENO, b"accepted");
-            print(lines);
-            print(bytes);
-            print_entries(lengths, lines);
-            print_entries(columns, lines);
-            io::write_all(STDOUT_FILENO, b" ");
+            rt.write_all(b"accepted")?;
+            print(rt, lines)?;
+            print(rt, bytes)?;
+            print_entries(rt, lengths, lines)?;
+            print_entries(rt, columns, lines)?;
+            rt.write_all(b" ")?;
             let end = least(bytes, text.len());
-            io::write_all(STDOUT_FILENO, &text[0..end]);
+            rt.write_all(&text[0..end])?;
         }
     }
-    io::write_all(STDOUT_FILENO, b"\n");
+    rt.write_all(b"\n")
 }
 
 // The output arrays hold the largest results.
 fn answer(
+    rt: &impl Print,
     line: &[u8],
     cols: &[u16],
     sections: &[u8],
@@ -45,7 +53,7 @@ fn answer(
     lengths: &[u16],
     text: &[u8],
     spaces: &[u16],
-) {
+) -> io::Result<()> {
     let mut starts = [0u16; 16384];
     let mut ends = [0u16; 16384];
     let mut firsts = [0u16; 1024];
@@ -79,10 +87,10 @@ fn answer(
         &mut out_columns[0..space(spaces, 8, 128)],
         &mut out_text[0..space(spaces, 9, 32768)],
     );
-    print_answer(answer, &out_lengths, &out_columns, &out_text);
+    print_answer(rt, answer, &out_lengths, &out_columns, &out_text)
 }
 
-fn answer_line(line: &[u8]) {
+fn answer_line(rt: &impl Print, line: &[u8]) -> io::Result<()> {
     let mut cols = [0u16; 512];
     let i = numbers_field(line, 6, &mut cols);
     let mut sections = [0u8; 512];
@@ -96,6 +104,7 @@ fn answer_line(line: &[u8]) {
     let mut spaces = [0u16; 10];
     let s = numbers_field(line, 11, &mut spaces);
     answer(
+        rt,
         line,
         &cols[0..i],
         &sections[0..j],
@@ -103,20 +112,21 @@ fn answer_line(line: &[u8]) {
         &lengths[0..m],
         &text[0..k],
         &spaces[0..s],
-    );
+    )
 }
 
-fn answer_all(buffer: &mut [u8]) {
-    let mut line = first_line(buffer);
+fn answer_all(rt: &impl Print, stdin: &mut impl Read, buffer: &mut [u8]) -> io::Result<()> {
+    let mut line = first_line(stdin, buffer)?;
     while 0 < line.left {
         let start = line.start;
         let end = line.end;
-        answer_line(&buffer[start..end]);
-        line = next_line(buffer, line);
+        answer_line(rt, &buffer[start..end])?;
+        line = next_line(stdin, buffer, line)?;
     }
+    Ok(())
 }
 
-fn main() {
-    let mut buffer = io::large_buffer();
-    answer_all(&mut buffer);
+fn main(rt: HostRuntime) -> io::Result<()> {
+    let mut buffer = [0u8; 65536];
+    answer_all(&rt, &mut rt.stdin(), &mut buffer)
 }

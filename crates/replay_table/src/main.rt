@@ -10,24 +10,26 @@
 // An answer is `refused`, number and place; or `accepted`, columns, rows, cells, lines, bytes and all entries of the five arrays.
 #![tactic(auto)]
 
-use libc::STDOUT_FILENO;
 use numbers::least;
 use replaying::{
     first_line, next_line, number_field, numbers_field, print, print_bytes, print_entries,
     print_refused, space, text_field,
 };
+use std::io;
+use std::io::Read;
 use table::TableAnswer;
 
 fn print_answer(
+    rt: &impl Print,
     answer: TableAnswer,
     cols: &[u16],
     sections: &[u8],
     cells: &[u16],
     lengths: &[u16],
     text: &[u8],
-) {
+) -> io::Result<()> {
     match answer {
-        TableAnswer::Refused { number, place } => print_refused(number, place),
+        TableAnswer::Refused { number, place } => print_refused(rt, number, place)?,
         TableAnswer::Accepted {
             columns: across,
             rows: tall,
@@ -35,31 +37,32 @@ fn print_answer(
             lines: kept,
             bytes: weight,
         } => {
-            io::write_all(STDOUT_FILENO, b"accepted");
-            print(across);
-            print(tall);
-            print(count);
-            print(kept);
-            print(weight);
-            print_entries(cols, 2 * least(across, 127));
-            print_bytes(sections, tall);
-            print_entries(cells, 5 * least(count, 1024));
-            print_entries(lengths, kept);
-            print_bytes(text, weight);
+            rt.write_all(b"accepted")?;
+            print(rt, across)?;
+            print(rt, tall)?;
+            print(rt, count)?;
+            print(rt, kept)?;
+            print(rt, weight)?;
+            print_entries(rt, cols, 2 * least(across, 127))?;
+            print_bytes(rt, sections, tall)?;
+            print_entries(rt, cells, 5 * least(count, 1024))?;
+            print_entries(rt, lengths, kept)?;
+            print_bytes(rt, text, weight)?;
         }
     }
-    io::write_all(STDOUT_FILENO, b"\n");
+    rt.write_all(b"\n")
 }
 
 // The output arrays hold the largest results.
 fn answer(
+    rt: &impl Print,
     lines: usize,
     bytes: usize,
     lengths: &[u16],
     columns: &[u16],
     text: &[u8],
     spaces: &[u16],
-) {
+) -> io::Result<()> {
     let mut glyphs = [0u8; 16384];
     let mut offsets = [0u16; 16384];
     let mut down = [0u8; 16384];
@@ -91,10 +94,18 @@ fn answer(
         &mut out_lengths[0..space(spaces, 10, 16384)],
         &mut out_text[0..space(spaces, 11, 32768)],
     );
-    print_answer(answer, &cols, &sections, &cells, &out_lengths, &out_text);
+    print_answer(
+        rt,
+        answer,
+        &cols,
+        &sections,
+        &cells,
+        &out_lengths,
+        &out_text,
+    )
 }
 
-fn answer_line(line: &[u8]) {
+fn answer_line(rt: &impl Print, line: &[u8]) -> io::Result<()> {
     let mut lengths = [0u16; 256];
     let n = numbers_field(line, 2, &mut lengths);
     let mut columns = [0u16; 256];
@@ -104,26 +115,28 @@ fn answer_line(line: &[u8]) {
     let mut spaces = [0u16; 12];
     let s = numbers_field(line, 5, &mut spaces);
     answer(
+        rt,
         number_field(line, 0),
         number_field(line, 1),
         &lengths[0..n],
         &columns[0..m],
         &text[0..k],
         &spaces[0..s],
-    );
+    )
 }
 
-fn answer_all(buffer: &mut [u8]) {
-    let mut line = first_line(buffer);
+fn answer_all(rt: &impl Print, stdin: &mut impl Read, buffer: &mut [u8]) -> io::Result<()> {
+    let mut line = first_line(stdin, buffer)?;
     while 0 < line.left {
         let start = line.start;
         let end = line.end;
-        answer_line(&buffer[start..end]);
-        line = next_line(buffer, line);
+        answer_line(rt, &buffer[start..end])?;
+        line = next_line(stdin, buffer, line)?;
     }
+    Ok(())
 }
 
-fn main() {
-    let mut buffer = io::large_buffer();
-    answer_all(&mut buffer);
+fn main(rt: HostRuntime) -> io::Result<()> {
+    let mut buffer = [0u8; 65536];
+    answer_all(&rt, &mut rt.stdin(), &mut buffer)
 }

@@ -10,15 +10,16 @@
 // at most 18 digits.
 #![tactic(auto)]
 
-use libc::STDOUT_FILENO;
 use replaying::{first_line, next_line, number_field, print, print_digits, text_field, word_field};
+use std::io;
+use std::io::Read;
 use text::{ByteAt, Column, Decoded, Width};
 
-fn answer_trim(case: &[u8]) {
-    let mut bytes = io::buffer();
+fn answer_trim(rt: &impl Print, case: &[u8]) -> io::Result<()> {
+    let mut bytes = [0u8; 4096];
     let n = text_field(case, 1, &mut bytes);
     let kept = rule_lines::trim::trim_end(&bytes[0..n]);
-    print_digits(kept.len());
+    print_digits(rt, kept.len())
 }
 
 fn byte_field(case: &[u8], k: usize) -> u8 {
@@ -26,69 +27,66 @@ fn byte_field(case: &[u8], k: usize) -> u8 {
     if n < 256 { n as u8 } else { 255 }
 }
 
-fn answer_rule(case: &[u8]) {
-    let mut bytes = io::buffer();
+fn answer_rule(rt: &impl Print, case: &[u8]) -> io::Result<()> {
+    let mut bytes = [0u8; 4096];
     let n = text_field(case, 2, &mut bytes);
     let is_rule = rule_lines::rule::is_rule(&bytes[0..n], byte_field(case, 1));
-    print_digits(is_rule as usize);
+    print_digits(rt, is_rule as usize)
 }
 
-fn answer_decode(case: &[u8]) {
-    let mut bytes = io::buffer();
+fn answer_decode(rt: &impl Print, case: &[u8]) -> io::Result<()> {
+    let mut bytes = [0u8; 4096];
     let n = text_field(case, 2, &mut bytes);
     let decoded = utf8::decode(&bytes[0..n], ByteAt(number_field(case, 1)));
     match decoded {
         Decoded::Character { value, size } => {
-            io::write_all(STDOUT_FILENO, b"C");
-            print(value as usize);
-            print(size);
+            rt.write_all(b"C")?;
+            print(rt, value as usize)?;
+            print(rt, size)
         }
-        Decoded::Refused => {
-            io::write_all(STDOUT_FILENO, b"B");
-        }
+        Decoded::Refused => rt.write_all(b"B"),
     }
 }
 
-fn answer_width(case: &[u8]) {
+fn answer_width(rt: &impl Print, case: &[u8]) -> io::Result<()> {
     let width = characters::width(word_field(case, 1));
     match width {
-        Width::Columns(n) => print_digits(n),
-        Width::Outside => {
-            io::write_all(STDOUT_FILENO, b"N");
-        }
+        Width::Columns(n) => print_digits(rt, n),
+        Width::Outside => rt.write_all(b"N"),
     }
 }
 
-fn answer_tab(case: &[u8]) {
-    print_digits(characters::tab_columns(Column(number_field(case, 1))));
+fn answer_tab(rt: &impl Print, case: &[u8]) -> io::Result<()> {
+    print_digits(rt, characters::tab_columns(Column(number_field(case, 1))))
 }
 
-fn answer_line(case: &[u8]) {
+fn answer_line(rt: &impl Print, case: &[u8]) -> io::Result<()> {
     if case.len() == 0 {
-        return;
+        return Ok(());
     }
     match case[0] {
-        b't' => answer_trim(case),
-        b'r' => answer_rule(case),
-        b'd' => answer_decode(case),
-        b'w' => answer_width(case),
-        b'b' => answer_tab(case),
+        b't' => answer_trim(rt, case)?,
+        b'r' => answer_rule(rt, case)?,
+        b'd' => answer_decode(rt, case)?,
+        b'w' => answer_width(rt, case)?,
+        b'b' => answer_tab(rt, case)?,
         _ => {}
     }
-    io::write_all(STDOUT_FILENO, b"\n");
+    rt.write_all(b"\n")
 }
 
-fn answer_all(buffer: &mut [u8]) {
-    let mut line = first_line(buffer);
+fn answer_all(rt: &impl Print, stdin: &mut impl Read, buffer: &mut [u8]) -> io::Result<()> {
+    let mut line = first_line(stdin, buffer)?;
     while 0 < line.left {
         let start = line.start;
         let end = line.end;
-        answer_line(&buffer[start..end]);
-        line = next_line(buffer, line);
+        answer_line(rt, &buffer[start..end])?;
+        line = next_line(stdin, buffer, line)?;
     }
+    Ok(())
 }
 
-fn main() {
-    let mut buffer = io::large_buffer();
-    answer_all(&mut buffer);
+fn main(rt: HostRuntime) -> io::Result<()> {
+    let mut buffer = [0u8; 65536];
+    answer_all(&rt, &mut rt.stdin(), &mut buffer)
 }

@@ -1,10 +1,13 @@
 // What the programs that replay cases have in common: the lines of the input, the fields of a case, and printing.
+//
+// What reads or prints fails where standard input or output does, with the same error.
 #![tactic(auto)]
 
-ghost use Rattle.std.specs.Prelude.{◌≤◌, ◌<◌, ◌≡◌, length};
+ghost use Rattle.std.specs.Prelude.{◌≤◌, ◌<◌, ◌≡◌, IfOk, OnErr, length};
 
-use libc::STDOUT_FILENO;
 use numbers::least;
+use std::io;
+use std::io::Read;
 
 // The first `stop` at or after `from`, or the end.
 fn find(s: &[u8], from: usize, stop: u8) -> usize
@@ -235,41 +238,43 @@ pub fn text_field(line: &[u8], k: usize, out: &mut [u8]) -> usize
     unpack(&line[start..end], out)
 }
 
-pub fn print_digits(n: usize) {
-    io::print_decimal(STDOUT_FILENO, n as u64);
+pub fn print_digits(rt: &impl Print, n: usize) -> io::Result<()> {
+    rt.print(n)
 }
 
-pub fn print(n: usize) {
-    io::write_all(STDOUT_FILENO, b" ");
-    print_digits(n);
+pub fn print(rt: &impl Print, n: usize) -> io::Result<()> {
+    rt.write_all(b" ")?;
+    print_digits(rt, n)
 }
 
-pub fn print_refused(number: usize, place: usize) {
-    io::write_all(STDOUT_FILENO, b"refused");
-    print(number);
-    print(place);
+pub fn print_refused(rt: &impl Print, number: usize, place: usize) -> io::Result<()> {
+    rt.write_all(b"refused")?;
+    print(rt, number)?;
+    print(rt, place)
 }
 
-pub fn print_entries(array: &[u16], n: usize) {
+pub fn print_entries(rt: &impl Print, array: &[u16], n: usize) -> io::Result<()> {
     let mut i = 0;
     while i < array.len() {
         if i >= n {
-            return;
+            return Ok(());
         }
-        print(entry(array[i]));
+        print(rt, entry(array[i]))?;
         i += 1;
     }
+    Ok(())
 }
 
-pub fn print_bytes(array: &[u8], n: usize) {
+pub fn print_bytes(rt: &impl Print, array: &[u8], n: usize) -> io::Result<()> {
     let mut i = 0;
     while i < array.len() {
         if i >= n {
-            return;
+            return Ok(());
         }
-        print(wide(array[i]));
+        print(rt, wide(array[i]))?;
         i += 1;
     }
+    Ok(())
 }
 
 // Where the numbers end that are the same as the one at `from`.
@@ -288,33 +293,34 @@ fn run_end(array: &[u32], from: usize) -> usize
 }
 
 // Prints the item at `at`, so many of the same number as one from five on, and gives the next place.
-fn print_item(array: &[u32], at: usize) -> usize
+fn print_item(rt: &impl Print, array: &[u32], at: usize) -> io::Result<usize>
     requires { at < length array.now }
-    ensures { (at < result) × (result ≤ length array.now) }
+    ensures { IfOk result (λ next. (at < next) × (next ≤ length array.now)) }
 {
     let end = run_end(array, at);
-    print_digits(word_entry(array[at]));
+    print_digits(rt, word_entry(array[at]))?;
     if end - at < 5 {
-        return at + 1;
+        return Ok(at + 1);
     }
-    io::write_all(STDOUT_FILENO, b"x");
-    print_digits(end - at);
-    end
+    rt.write_all(b"x")?;
+    print_digits(rt, end - at)?;
+    Ok(end)
 }
 
 // Prints a list as a case has it.
-pub fn print_list(array: &[u32]) {
-    io::write_all(STDOUT_FILENO, b" ");
+pub fn print_list(rt: &impl Print, array: &[u32]) -> io::Result<()> {
+    rt.write_all(b" ")?;
     if array.len() == 0 {
-        io::write_all(STDOUT_FILENO, b"-");
+        rt.write_all(b"-")?;
     }
     let mut at = 0;
     while at < array.len() {
-        at = print_item(array, at);
+        at = print_item(rt, array, at)?;
         if at < array.len() {
-            io::write_all(STDOUT_FILENO, b",");
+            rt.write_all(b",")?;
         }
     }
+    Ok(())
 }
 
 // The length of array i, at most `most`.
@@ -367,32 +373,58 @@ fn line_at(start: usize, end: usize, held: usize, left: usize) -> Line
     }
 }
 
+// Reads until the buffer is full or the input ends, and counts the bytes.
+fn read_full(stdin: &mut impl Read, buffer: &mut [u8]) -> io::Result<usize>
+    ensures { IfOk result (λ n. n ≤ length buffer.new) }
+{
+    let mut n = 0;
+    while n < buffer.len() {
+        let more = stdin.read(&mut buffer[n..])?;
+        if more == 0 {
+            return Ok(n);
+        }
+        n += more;
+    }
+    Ok(n)
+}
+
 // The line from `from` on, in a buffer that holds so many bytes. Where they end before it does, they are moved to the start and the
-// buffer is filled.
-fn line_from(buffer: &mut [u8], from: usize, held: usize, left: usize) -> Line
+// buffer is filled. After an error the buffer holds no line.
+fn line_from(
+    stdin: &mut impl Read,
+    buffer: &mut [u8],
+    from: usize,
+    held: usize,
+    left: usize,
+) -> io::Result<Line>
     requires { (from ≤ held) × (held ≤ length buffer.old) }
-    ensures { (result.start ≤ result.end) × (result.end ≤ result.held) × (result.held ≤ length buffer.new) × (result.left ≤ left) }
+    ensures { IfOk result (λ line. (line.start ≤ line.end) × (line.end ≤ line.held) × (line.held ≤ length buffer.new) × (line.left ≤ left)) }
 {
     let end = find(&buffer[0..held], from, b'\n');
     if end < held {
-        return line_at(from, end, held, left);
+        return Ok(line_at(from, end, held, left));
     }
     let kept = move_down(buffer, from, held);
-    let more = io::read_full(libc::STDIN_FILENO, &mut buffer[kept..]);
+    let more = read_full(stdin, &mut buffer[kept..])?;
     let all = kept + more;
-    line_at(0, find(&buffer[0..all], 0, b'\n'), all, left)
+    Ok(line_at(0, find(&buffer[0..all], 0, b'\n'), all, left))
 }
 
-pub fn first_line(buffer: &mut [u8]) -> Line
-    ensures { (result.start ≤ result.end) × (result.end ≤ result.held) × (result.held ≤ length buffer.new) }
+// After an error the buffer holds no line, and any bytes.
+pub fn first_line(stdin: &mut impl Read, buffer: &mut [u8]) -> io::Result<Line>
+    ensures err { OnErr result (length buffer.new ≡ length buffer.old) }
+    ensures ok { IfOk result (λ line. (line.start ≤ line.end) × (line.end ≤ line.held) × (line.held ≤ length buffer.new)) }
 {
-    line_from(buffer, 0, 0, MAX_LINES)
+    line_from(stdin, buffer, 0, 0, MAX_LINES)
 }
 
-pub fn next_line(buffer: &mut [u8], line: Line) -> Line
+// Likewise after an error.
+pub fn next_line(stdin: &mut impl Read, buffer: &mut [u8], line: Line) -> io::Result<Line>
     requires { (line.end ≤ line.held) × (line.held ≤ length buffer.old) × (0 < line.left) }
-    ensures { (result.start ≤ result.end) × (result.end ≤ result.held) × (result.held ≤ length buffer.new) × (result.left < line.left) }
+    ensures err { OnErr result (length buffer.new ≡ length buffer.old) }
+    ensures ok { IfOk result (λ next. (next.start ≤ next.end) × (next.end ≤ next.held) × (next.held ≤ length buffer.new)
+        × (next.left < line.left)) }
 {
     let from = least(line.end + 1, line.held);
-    line_from(buffer, from, line.held, line.left - 1)
+    line_from(stdin, buffer, from, line.held, line.left - 1)
 }

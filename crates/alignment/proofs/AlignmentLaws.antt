@@ -1,7 +1,7 @@
 -- What the answers of this crate mean for a table in its arrays: refusal 9 (`foot-told`) and, where that does not hold, refusal 10
 -- (`misaligned-told`), and for whoever draws colons the alignment line (`alignment-row`) and the corners on it (`corner-told`).
 -- `tabled-markable`: its corners can be marked.
-use Prim.Native.Nat.{ℕ, zero, suc, ◌+◌, ◌*◌, ◌-◌, ◌≤◌, ◌<◌}
+use Prim.Native.Nat.{ℕ, zero, suc, ◌+◌, ◌*◌, ◌≤◌, ◌<◌}
 use mathlib.Core.Path.{◌≡◌, refl, sym, ap, ap₂, ◌∙◌}
 use mathlib.Core.Bool.{Bool, true, false, not, ◌&&◌, ◌||◌, cond}
 use mathlib.Core.Logic.{⊎_elim}

@@ -1,5 +1,5 @@
 -- Document 01, "Tracing".
-use Rattle.std.specs.Prelude.{ℕ, zero, suc, ◌+◌, ◌-◌, Bool, ◌||◌, cond, List, [], ◌∷◌, ◌++◌, get_or, take, drop, replicate, eqb, leb}
+use Rattle.std.specs.Prelude.{ℕ, zero, suc, ◌-◌, Bool, ◌||◌, cond, List, [], ◌∷◌, ◌++◌, get_or, take, drop, replicate, eqb, leb}
 use Rattle.std.proofs.Math.Option.{Option, none, some}
 use Rattle.seq.specs.Lists.{range, all, smallest, first_at, is_some, or_default, some_if}
 use Rattle.grid.specs.Limits.{max_cells}

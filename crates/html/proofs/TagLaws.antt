@@ -14,7 +14,7 @@ use Rattle.seq.specs.Ascii.{ascii}
 use Rattle.seq.proofs.Tests.{or-neither, or-none}
 use Rattle.seq.proofs.Searches.{any_none}
 use Rattle.seq.proofs.Positions.{get_or-mem}
-use Rattle.html.specs.Tags.{Attribute, Tag, Forest, nothing, text, single, element, attribute_text, tag_text, closing_text, render, before, from, after, read_attributes, read_tag, holds_nothing, Read, and_after, closed, tagged, read_one, read_pieces, whole, read_tags}
+use Rattle.html.specs.Tags.{Attribute, Tag, Forest, nothing, text, single, element, attribute_text, tag_text, closing_text, render, before, from, after, read_attributes, read_tag, holds_nothing, Read, and_after, tagged, read_one, read_pieces, whole, read_tags}
 
 -- ---- bytes without a byte
 abbrev pub Lacks : ℕ → List ℕ → Type 0

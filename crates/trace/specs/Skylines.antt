@@ -1,6 +1,5 @@
 -- The skyline in its array.
 use Rattle.std.specs.Prelude.{ℕ, ◌≤◌, ◌<◌, ◌≡◌, List, length, get_or, take}
-use Rattle.std.proofs.Math.Option.{some}
 use Rattle.trace.specs.declared.skyline.Skyline.{Skyline}
 
 -- the bottoms in use

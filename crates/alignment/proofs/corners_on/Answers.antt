@@ -1,4 +1,3 @@
-use Prim.Native.Nat.{◌-◌}
 use Rattle.alignment.proofs.CornerLaws.{none-marked, right-fits, bottom-fits, left-small, right-small, both-marked, none_more, all-marked}
 use borrow.Author.Rules.{rules}
 use Rattle.alignment.proofs.corners_on.Goals as goal

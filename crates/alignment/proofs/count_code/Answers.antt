@@ -1,4 +1,3 @@
-use Prim.Native.Nat.{◌-◌}
 use Rattle.alignment.proofs.SectionLaws.{none-counted, one-counted, other-passed, all-counted}
 use borrow.Author.Rules.{rules}
 use Rattle.alignment.proofs.count_code.Goals as goal

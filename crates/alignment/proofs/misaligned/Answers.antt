@@ -1,4 +1,3 @@
-use Prim.Native.Nat.{◌-◌}
 use Rattle.alignment.proofs.LackLaws.{none_passed, lack-found, one-passed, lack-nowhere}
 use borrow.Author.Rules.{rules}
 use Rattle.alignment.proofs.misaligned.Goals as goal

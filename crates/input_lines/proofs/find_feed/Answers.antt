@@ -1,5 +1,4 @@
 use borrow.Author.Rules.{rules}
-use Prim.Native.Nat.{◌-◌}
 use Rattle.input_lines.proofs.SplitLaws.{feed-start, feed-found, feed-later, feed-none}
 use Rattle.input_lines.proofs.find_feed.Goals as goal
 

@@ -1,4 +1,3 @@
-use Prim.Native.Nat.{◌-◌}
 use Rattle.input_lines.proofs.SplitLaws.{lines_none, lines_next, lines-held, lines-many, lines_long}
 use Rattle.input_lines.proofs.split_lines.Goals as goal
 

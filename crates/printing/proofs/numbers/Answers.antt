@@ -1,5 +1,4 @@
 use borrow.Author.Rules.{rules}
-use Prim.Native.Nat.{◌-◌}
 use Rattle.printing.proofs.PutLaws.{numbers-none, numbers-next, numbers-all}
 use Rattle.printing.proofs.numbers.Goals as goal
 

@@ -1,7 +1,5 @@
 -- `reading::trace_lines` meets its contract: what the callees ensure, put together.
 use Rattle.reading.proofs.ThroughLaws.{through-unfilled, through-traced}
-use mathlib.Core.Path.{ap}
-use mathlib.Core.Bool.{not}
 use Rattle.reading.proofs.trace_lines.Goals as goal
 
 pub returns-then-not-filled : goal.returns-then-not-filled

@@ -1,4 +1,3 @@
-use Prim.Native.Nat.{◌-◌}
 use native.Mathlib.Omega.{arith}
 use Rattle.seq.specs.Lists.{sum}
 use Rattle.seq.proofs.Gathered.{sum-within}

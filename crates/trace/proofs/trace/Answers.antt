@@ -1,4 +1,3 @@
-use Prim.Native.Nat.{◌-◌}
 use borrow.Author.Rules.{rules}
 use Rattle.trace.proofs.TracingLaws.{small-grid, tall-enough, wide_enough, tracing-starts, none-stops, full-stops, tracing-ends, tracing-on, put-asked, raised-asked, corner-asked}
 use Rattle.trace.proofs.trace.Goals as goal

@@ -1,5 +1,4 @@
 use borrow.Author.Rules.{rules}
-use Prim.Native.Nat.{◌-◌}
 use Rattle.writer.proofs.WritingLaws.{written_none, written_next, written_all}
 use Rattle.writer.proofs.copy.Goals as goal
 

@@ -1,5 +1,4 @@
 use borrow.Author.Rules.{rules}
-use Prim.Native.Nat.{◌-◌}
 use Rattle.writer.proofs.WritingLaws.{written_none, filled_next, filled-all}
 use Rattle.writer.proofs.fill.Goals as goal
 

@@ -1,4 +1,3 @@
-use Prim.Native.Nat.{◌-◌}
 use Rattle.canvas.proofs.SlotLaws.{rect-inside}
 use Rattle.canvas.proofs.borders.BorderLaws.{borders-start, borders-next, borders-end}
 use borrow.Author.Rules.{rules}

@@ -3,7 +3,6 @@ use Prim.Native.Nat.{◌-◌, ◌≤◌}
 use mathlib.Core.Path.{◌≡◌}
 use lib.ListN.{length}
 use Rattle.canvas.specs.Painting.{Drawn, bordered}
-use borrow.Author.Rules.{rules}
 use Rattle.canvas.proofs.borders.draw_borders.Given as goal
 
 abbrev pub invariant-loop-k : goal.invariant-loop-k

@@ -1,4 +1,3 @@
-use Prim.Native.Nat.{◌-◌}
 use native.Mathlib.Omega.{arith}
 use lib.ListN.{length-set}
 use Rattle.canvas.proofs.borders.EndLaws.{ends-start, ends_next, ends-end}

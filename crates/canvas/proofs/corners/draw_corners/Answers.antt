@@ -1,4 +1,3 @@
-use Prim.Native.Nat.{◌-◌}
 use Rattle.canvas.proofs.SlotLaws.{rect-inside}
 use Rattle.canvas.proofs.corners.CornerLaws.{corners-start, corners-next, corners-end}
 use borrow.Author.Rules.{rules}

@@ -1,4 +1,3 @@
-use Prim.Native.Nat.{◌-◌}
 use Rattle.canvas.proofs.frames.FrameLaws.{frames-start, frames-next, frames-end, frame-room}
 use Rattle.canvas.proofs.frames.FrameLaws.{index-fits, place-fits, row_small, column-small, end-row-small, end-column-small}
 use borrow.Author.Rules.{rules}

@@ -1,4 +1,3 @@
-use Prim.Native.Nat.{◌-◌}
 use native.Mathlib.Omega.{arith}
 use borrow.Author.Rules.{rules}
 use Rattle.cell.proofs.lines.WriteLaws.{pieces-cuttable, lines_written-first-fits, lines_written-line-fits, pieces-fit, lines_written-none, lines_written-place-fits, lines_written-next, lines_written-end, lines_written-lengths, lines_written-text}

@@ -1,4 +1,3 @@
-use Prim.Native.Nat.{◌-◌}
 use borrow.Author.Rules.{rules}
 use Rattle.cell.proofs.pieces.PieceLaws.{starting-none, starting-room, starting-fits, starting-next, starting-all}
 use Rattle.cell.proofs.pieces.line_starts.Goals as goal

@@ -1,4 +1,3 @@
-use Prim.Native.Nat.{◌-◌}
 use native.Mathlib.Omega.{arith}
 use borrow.Author.Rules.{rules}
 use Rattle.cell.proofs.pieces.TotalLaws.{totalling-none, totalling-framed, totalling-room, totalling-lines-fit, totalling-bytes-fit, totalling-next, totalling-all}

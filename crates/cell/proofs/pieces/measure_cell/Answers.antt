@@ -1,4 +1,3 @@
-use Prim.Native.Nat.{◌-◌}
 use native.Mathlib.Omega.{arith}
 use borrow.Author.Rules.{rules}
 use Rattle.cell.proofs.pieces.MeasureLaws.{measuring-none, framed-cuttable, measuring-fits, measuring-empty, measuring-filled, measuring-all}

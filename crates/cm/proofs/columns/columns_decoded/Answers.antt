@@ -1,4 +1,3 @@
-use Prim.Native.Nat.{◌-◌}
 use Rattle.text.proofs.Utf8Laws.{character-in-set}
 use Rattle.cm.proofs.columns.WalkLaws.{walked_none, walked_next, walked_all, columns-room, columns-sum, bytes-room, bytes_left}
 use Rattle.cm.proofs.columns.columns_decoded.Goals as goal

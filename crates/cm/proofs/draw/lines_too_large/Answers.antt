@@ -1,4 +1,3 @@
-use Prim.Native.Nat.{◌-◌}
 use borrow.Author.Rules.{rules}
 use Rattle.seq.specs.Lists.{any}
 use Rattle.cm.proofs.draw.SizeLaws.{long-here, long-next, long-ends}

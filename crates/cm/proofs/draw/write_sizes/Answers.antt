@@ -1,4 +1,3 @@
-use Prim.Native.Nat.{◌-◌}
 use borrow.Author.Rules.{rules}
 use Rattle.cm.proofs.draw.SizeLaws.{length-fits, lengths-next, columns-next, sizes-written, columns-written}
 use Rattle.cm.proofs.draw.write_sizes.Goals as goal

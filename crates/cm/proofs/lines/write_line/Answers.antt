@@ -1,4 +1,3 @@
-use Prim.Native.Nat.{◌-◌}
 use borrow.Author.Rules.{rules}
 use Rattle.cm.proofs.lines.TurnLaws.{walk-starts, walk_ends, walk-total, walk-border, inner-asked, right-room, walk-less, walk-cell, walk-few}
 use Rattle.cm.proofs.lines.write_line.Goals as goal

@@ -1,4 +1,3 @@
-use Prim.Native.Nat.{◌-◌}
 use borrow.Author.Rules.{rules}
 use Rattle.cm.proofs.output.OutputLaws.{height-low, line-asked, counted_none, counted_next, counted-all}
 use Rattle.cm.proofs.output.count_lines.Goals as goal

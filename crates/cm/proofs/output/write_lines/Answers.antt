@@ -1,4 +1,3 @@
-use Prim.Native.Nat.{◌-◌}
 use borrow.Author.Rules.{rules}
 use Rattle.cm.proofs.output.OutputLaws.{height-low, line-asked, written_none, written_next, written_all}
 use Rattle.cm.proofs.output.write_lines.Goals as goal

@@ -1,4 +1,3 @@
-use Prim.Native.Nat.{◌-◌}
 use borrow.Author.Rules.{rules}
 use Rattle.cm.proofs.split.FirstLaws.{unsplit-none, unsplit-next, split-here, split-nowhere}
 use Rattle.cm.proofs.split.first_split.Goals as goal

@@ -1,4 +1,3 @@
-use Prim.Native.Nat.{◌-◌}
 use borrow.Author.Rules.{rules}
 use Rattle.text.proofs.Utf8Laws.{character-in-set}
 use Rattle.cm.proofs.columns.WalkLaws.{columns-room, columns-sum, bytes-room, bytes_left}

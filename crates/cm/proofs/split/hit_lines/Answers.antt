@@ -1,4 +1,3 @@
-use Prim.Native.Nat.{◌-◌}
 use borrow.Author.Rules.{rules}
 use Rattle.cm.proofs.split.HitLinesLaws.{hits-none, hits_next, hits-all, line-short, line-well, line-ends}
 use Rattle.cm.proofs.split.hit_lines.Goals as goal

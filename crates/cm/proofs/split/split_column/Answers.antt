@@ -1,4 +1,3 @@
-use Prim.Native.Nat.{◌-◌}
 use borrow.Author.Rules.{rules}
 use Rattle.cm.proofs.split.ColumnLaws.{search-starts, search-here, search-next, search-ends}
 use Rattle.cm.proofs.split.split_column.Goals as goal

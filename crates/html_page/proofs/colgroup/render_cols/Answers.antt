@@ -1,4 +1,3 @@
-use Prim.Native.Nat.{◌-◌}
 use borrow.Author.Rules.{rules}
 use Rattle.html_page.proofs.colgroup.ColgroupLaws.{cols-none, cols-next, cols-all}
 use Rattle.html_page.proofs.colgroup.render_cols.Goals as goal

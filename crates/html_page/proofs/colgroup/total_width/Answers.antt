@@ -1,4 +1,3 @@
-use Prim.Native.Nat.{◌-◌}
 use mir.Facts.{Fits-widen}
 use borrow.Author.Rules.{rules}
 use Rattle.html_page.proofs.colgroup.ColgroupLaws.{total-small, total-fits, total-none, total-next, total-all}

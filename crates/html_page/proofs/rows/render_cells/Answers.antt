@@ -1,4 +1,3 @@
-use Prim.Native.Nat.{◌-◌}
 use native.Mathlib.Omega.{arith}
 use borrow.Author.Rules.{rules}
 use Rattle.html_page.proofs.rows.RowLaws.{standing-in, standing-next, standing-past, cell-given, bytes_fit, place-low, cells-none, cells-next, cells-all}

@@ -1,4 +1,3 @@
-use Prim.Native.Nat.{◌-◌}
 use borrow.Author.Rules.{rules}
 use Rattle.html_page.proofs.rows.RowLaws.{standing-first, rows_none, rows_next, rows_all}
 use Rattle.html_page.proofs.rows.render_rows.Goals as goal

@@ -1,4 +1,3 @@
-use Prim.Native.Nat.{◌-◌}
 use Rattle.layout.proofs.bounds.EdgeLaws.{collected-none, collected-line, collected-no-line, collected-all}
 use borrow.Author.Rules.{rules}
 use Rattle.layout.proofs.bounds.collect.Goals as goal

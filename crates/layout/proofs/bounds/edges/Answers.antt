@@ -1,4 +1,3 @@
-use Prim.Native.Nat.{◌-◌}
 use Rattle.layout.proofs.bounds.EdgeLaws.{marks-none, first_small, second-small, marks-next, marks-all}
 use borrow.Author.Rules.{rules}
 use Rattle.layout.proofs.bounds.edges.Goals as goal

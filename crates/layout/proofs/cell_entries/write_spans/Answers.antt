@@ -1,6 +1,5 @@
-use Prim.Native.Nat.{◌-◌}
 use native.Mathlib.Omega.{arith}
-use borrow.Author.Rules.{elem_fits_field, rules}
+use borrow.Author.Rules.{rules}
 use Rattle.representation.proofs.HeldLaws.{top_small, left-small, bottom-small, right-small, rows-ordered, columns-ordered}
 use Rattle.layout.proofs.cell_entries.CellEntryLaws.{no_span, spans-room, spans-next, spans-done, more-inside, more-sum, more-product}
 use Rattle.layout.proofs.cell_entries.write_spans.Goals as goal

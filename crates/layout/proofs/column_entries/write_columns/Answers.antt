@@ -1,4 +1,3 @@
-use Prim.Native.Nat.{◌-◌}
 use native.Mathlib.Omega.{arith}
 use lib.ListN.{length-set}
 use Rattle.representation.proofs.HeldLaws.{lines-ordered, lines-apart, line_small, width_fits}

@@ -1,4 +1,3 @@
-use Prim.Native.Nat.{◌-◌}
 use Rattle.representation.proofs.HeldLaws.{top-first, some-height}
 use Rattle.layout.proofs.range_entries.RangesLaws.{ranges_counted-none, ranges_counted-fits, ranges_counted-next, ranges_counted-all}
 use borrow.Author.Rules.{rules}

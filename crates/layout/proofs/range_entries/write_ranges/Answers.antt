@@ -1,4 +1,3 @@
-use Prim.Native.Nat.{◌-◌}
 use Rattle.representation.proofs.HeldLaws.{top_above, top-first, some-height, left-small, bottom-small, right-small}
 use Rattle.layout.proofs.range_entries.RangesLaws.{all_ranges_written-none, all_ranges_written-small, all_ranges_written-room, all_ranges_written-entries-fit, all_ranges_written-place-fits, all_ranges_written-next, all_ranges_written-all}
 use borrow.Author.Rules.{rules}

@@ -1,4 +1,3 @@
-use Prim.Native.Nat.{◌-◌}
 use native.Mathlib.Omega.{arith}
 use lib.ListN.{length-set}
 use Rattle.layout.proofs.range_entries.RangeLaws.{ranges_written-none, ranges_written-next, ranges_written-all, range_entries-start-fits}

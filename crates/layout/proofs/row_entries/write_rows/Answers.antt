@@ -1,4 +1,3 @@
-use Prim.Native.Nat.{◌-◌}
 use Rattle.layout.proofs.row_entries.RowEntryLaws.{rows_written-none, rows_written-next, rows_written-all}
 use native.Mathlib.Omega.{arith}
 use lib.ListN.{length-set}

@@ -1,5 +1,4 @@
 use borrow.Author.Rules.{rules}
-use Prim.Native.Nat.{◌-◌}
 use Rattle.layout_listing.proofs.print.LineLaws.{cells-none, cells-put, cells-all}
 use Rattle.layout_listing.proofs.print.cell_lines.Goals as goal
 

@@ -1,5 +1,4 @@
 use borrow.Author.Rules.{rules}
-use Prim.Native.Nat.{◌-◌}
 use Rattle.layout_listing.proofs.print.LineLaws.{columns-none, columns-put, columns-all}
 use Rattle.layout_listing.proofs.print.column_lines.Goals as goal
 

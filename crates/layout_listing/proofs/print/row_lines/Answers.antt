@@ -1,5 +1,4 @@
 use borrow.Author.Rules.{rules}
-use Prim.Native.Nat.{◌-◌}
 use Rattle.layout_listing.proofs.print.LineLaws.{rows_none, rows-put, rows_all}
 use Rattle.layout_listing.proofs.print.row_lines.Goals as goal
 

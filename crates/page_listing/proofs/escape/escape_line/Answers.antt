@@ -2,7 +2,6 @@ use borrow.Author.Rules.{rules}
 use Rattle.page_listing.proofs.escape.ByteLaws.{line-next, line-all}
 use Rattle.writer.proofs.WritingLaws.{wrote_none}
 use mathlib.Core.List.{flat_map}
-use Prim.Native.Nat.{◌-◌}
 use Rattle.page_listing.proofs.escape.escape_line.Goals as goal
 
 pub loop-i-init : goal.loop-i-init

@@ -1,6 +1,5 @@
 use borrow.Author.Rules.{rules}
 use Rattle.page_listing.proofs.escape.LineLaws.{lines_none, line-within, line_small, break-low, line-asked, lines_next, lines-all}
-use Prim.Native.Nat.{◌-◌}
 use Rattle.page_listing.proofs.escape.escape_lines.Goals as goal
 
 pub loop-i-init : goal.loop-i-init

@@ -1,4 +1,3 @@
-use Prim.Native.Nat.{◌-◌}
 use borrow.Author.Rules.{rules}
 use Rattle.positions.proofs.cells.RectLaws.{rect_spans_written-none, rect-inside, rect_spans_written-room, rect_spans_written-next, rect_spans_written-all}
 use Rattle.positions.proofs.cells.write_cells.Goals as goal

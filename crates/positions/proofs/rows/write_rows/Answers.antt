@@ -1,4 +1,3 @@
-use Prim.Native.Nat.{◌-◌}
 use borrow.Author.Rules.{rules}
 use Rattle.representation.proofs.HeldLaws.{rises-here}
 use Rattle.positions.proofs.rows.RowLaws.{row_spans_written-none, lines_held-inside, row_spans_written-room, row_spans_written-next, row_spans_written-all}

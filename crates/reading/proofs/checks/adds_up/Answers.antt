@@ -1,4 +1,3 @@
-use Prim.Native.Nat.{◌-◌}
 use Rattle.reading.proofs.checks.CheckLaws.{too_long, counts-down, counted-down}
 use borrow.Author.Rules.{rules}
 use Rattle.reading.proofs.checks.adds_up.Goals as goal

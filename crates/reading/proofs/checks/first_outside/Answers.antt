@@ -1,4 +1,3 @@
-use Prim.Native.Nat.{◌-◌}
 use native.Mathlib.Omega.{arith}
 use Rattle.seq.proofs.Walks.{sum-after}
 use Rattle.reading.proofs.checks.CheckLaws.{line-passed, line-end, outside-here, inside-here, none-outside}

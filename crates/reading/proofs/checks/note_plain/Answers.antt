@@ -1,4 +1,3 @@
-use Prim.Native.Nat.{◌-◌}
 use borrow.Author.Rules.{rules}
 use Rattle.reading.proofs.checks.ScanLaws.{noted-starts, noted-next, noted-ends}
 use Rattle.reading.proofs.checks.note_plain.Goals as goal

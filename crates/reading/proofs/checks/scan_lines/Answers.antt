@@ -1,4 +1,3 @@
-use Prim.Native.Nat.{◌-◌}
 use borrow.Author.Rules.{rules}
 use Rattle.reading.proofs.checks.ScanLaws.{lines_start, line-short, line-near, line-within, line-fits, line-columned, line_plain, line-scannable, line-outside, line-next, lines-known, plain_known}
 use mathlib.Core.Path.{ap}

@@ -1,4 +1,3 @@
-use Prim.Native.Nat.{◌-◌}
 use Rattle.reading.proofs.limits.LimitLaws.{over-here, not-over-here, none_over}
 use borrow.Author.Rules.{rules}
 use Rattle.reading.proofs.limits.any_over.Goals as goal

@@ -1,4 +1,3 @@
-use Prim.Native.Nat.{◌-◌}
 use Rattle.redraw_listing.proofs.print.PrintLaws.{printed-none, line-within, line-room, feed-room, printed-next, printed-all}
 use borrow.Author.Rules.{rules}
 use Rattle.redraw_listing.proofs.print.print_lines.Goals as goal

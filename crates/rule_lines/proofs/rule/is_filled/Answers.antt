@@ -1,4 +1,3 @@
-use Prim.Native.Nat.{◌-◌}
 use borrow.Author.Rules.{rules}
 use Rattle.text.proofs.RuleLaws.{fills-none, fills-from, other-here, fill_here, fills-all}
 use Rattle.rule_lines.proofs.rule.is_filled.Goals as goal

@@ -1,4 +1,3 @@
-use Prim.Native.Nat.{◌-◌}
 use borrow.Author.Rules.{rules}
 use Rattle.text.proofs.RuleLaws.{plus-here, no-plus-here, no-plus-left}
 use Rattle.rule_lines.proofs.rule.segment_end.Goals as goal

@@ -1,4 +1,3 @@
-use Prim.Native.Nat.{◌-◌}
 use borrow.Author.Rules.{rules}
 use Rattle.seq.proofs.Walks.{all-next, all-ends}
 use Rattle.rule_lines.proofs.trim.all_blank.Goals as goal

@@ -1,4 +1,3 @@
-use Prim.Native.Nat.{◌-◌}
 use Rattle.sizes.proofs.borders.OffsetLaws.{first-known, offset-fits, next_fits, one_known, all_known}
 use borrow.Author.Rules.{rules}
 use Rattle.sizes.proofs.borders.offsets.Goals as goal

@@ -1,4 +1,3 @@
-use Prim.Native.Nat.{◌-◌}
 use native.Mathlib.Omega.{arith}
 use Rattle.sizes.proofs.borders.StartLaws.{none-started, code-known, one-started, all-started}
 use borrow.Author.Rules.{rules}

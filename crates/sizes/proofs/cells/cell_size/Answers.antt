@@ -1,4 +1,3 @@
-use Prim.Native.Nat.{◌-◌}
 use Rattle.sizes.proofs.cells.SizeLaws.{none-sized, start-inside, end-inside, line-forward, line-short, line-well, filled-sized, empty-sized, all-counted, all-across}
 use borrow.Author.Rules.{rules}
 use Rattle.sizes.proofs.cells.cell_size.Goals as goal

@@ -1,4 +1,3 @@
-use Prim.Native.Nat.{◌-◌}
 use Rattle.sizes.proofs.cells.CountLaws.{none-counted, cell-few, cell-measurable, lines_fit, first_fits, next_fits, first-room, height-room, wide_room, one-counted, all-counted}
 use borrow.Author.Rules.{rules}
 use Rattle.sizes.proofs.cells.measure_cells.Goals as goal

@@ -1,4 +1,3 @@
-use Prim.Native.Nat.{◌-◌}
 use native.Mathlib.Omega.{arith}
 use Rattle.sizes.proofs.fit.TurnLaws.{none-turned, from-inside, span-inside, need-inside, span-reaches, grown-small, have-fits, have-some, last_fits, last_some, last-scaled, last-inside, lack-fits, no-lack, some-lack, all-turned}
 use borrow.Author.Rules.{rules}

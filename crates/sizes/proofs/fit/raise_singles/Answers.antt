@@ -1,4 +1,3 @@
-use Prim.Native.Nat.{◌-◌}
 use native.Mathlib.Omega.{arith}
 use Rattle.sizes.proofs.fit.TurnLaws.{none-turned, from-inside, span-inside, need-inside, first-inside, first-scaled, single-raised, none-raised, all-turned}
 use borrow.Author.Rules.{rules}

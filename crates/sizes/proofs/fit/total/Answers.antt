@@ -1,4 +1,3 @@
-use Prim.Native.Nat.{◌-◌}
 use Rattle.sizes.proofs.fit.TotalLaws.{none-added, total-fits, one-added, all-added, total-small}
 use borrow.Author.Rules.{rules}
 use Rattle.sizes.proofs.fit.total.Goals as goal

@@ -1,4 +1,3 @@
-use Prim.Native.Nat.{◌-◌}
 use borrow.Author.Rules.{rules}
 use Rattle.sizes.proofs.lines.TrimmedLaws.{none-trimmed, line-end, line-fits, start_fits, start-room, end-room, end_fits, end-small, one-trimmed, all-trimmed}
 use Rattle.sizes.proofs.lines.trim_lines.Goals as goal

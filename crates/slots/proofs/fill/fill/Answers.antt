@@ -1,4 +1,3 @@
-use Prim.Native.Nat.{◌-◌}
 use borrow.Author.Rules.{rules}
 use Rattle.slots.proofs.fill.SheetLaws.{sheet-starts, each-short, each_fits, each-inside, each-counted, each-room, sheet-next, sheet-wrong, sheet-done}
 use Rattle.slots.proofs.fill.fill.Goals as goal

@@ -1,4 +1,3 @@
-use Prim.Native.Nat.{◌-◌}
 use Rattle.slots.proofs.glyphs.PlainLaws.{bytes-start, bytes_next, glyphs-end, offsets-end}
 use Rattle.slots.proofs.glyphs.fill_plain.Goals as goal
 

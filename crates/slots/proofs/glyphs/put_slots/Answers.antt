@@ -1,4 +1,3 @@
-use Prim.Native.Nat.{◌-◌}
 use borrow.Author.Rules.{rules}
 use Rattle.slots.proofs.glyphs.ReplaceLaws.{put-starts, put_next, put-next-is, put-ends}
 use Rattle.slots.proofs.glyphs.put_slots.Goals as goal

@@ -1,4 +1,3 @@
-use Prim.Native.Nat.{◌-◌}
 use borrow.Author.Rules.{rules}
 use Rattle.slots.proofs.reach.ReachLaws.{run-starts, run-next, run_ends}
 use Rattle.slots.proofs.reach.has_run.Goals as goal

@@ -1,4 +1,3 @@
-use Prim.Native.Nat.{◌-◌}
 use borrow.Author.Rules.{rules}
 use Rattle.slots.proofs.reach.ReachLaws.{rows_start, right-room, rows_next, rows_end}
 use Rattle.slots.proofs.reach.reach_right.Goals as goal

@@ -1,4 +1,3 @@
-use Prim.Native.Nat.{◌-◌}
 use borrow.Author.Rules.{rules}
 use Rattle.slots.proofs.reach.ReachLaws.{line-of-starts, line-of-next, line-of-ends}
 use Rattle.slots.proofs.reach.reach_self.Goals as goal

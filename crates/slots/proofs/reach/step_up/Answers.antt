@@ -1,4 +1,3 @@
-use Prim.Native.Nat.{◌-◌}
 use borrow.Author.Rules.{rules}
 use Rattle.slots.proofs.reach.ReachLaws.{stepped-starts, stepped-next, stepped-ends}
 use Rattle.slots.proofs.reach.step_up.Goals as goal

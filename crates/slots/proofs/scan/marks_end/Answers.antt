@@ -1,4 +1,3 @@
-use Prim.Native.Nat.{◌-◌}
 use borrow.Author.Rules.{rules}
 use Rattle.slots.proofs.scan.ScanLaws.{none_passed, passed-next}
 use Rattle.slots.proofs.scan.marks_end.Goals as goal

@@ -1,4 +1,3 @@
-use Prim.Native.Nat.{◌-◌}
 use borrow.Author.Rules.{rules}
 use Rattle.slots.proofs.scan.ScanLaws.{scan-starts, next-plain, next-ascii, next-narrow, marks-room, next_marks, next-wide, scan-ends, scan-outside, scan-control, in_set-known, span-few, count_fits}
 use mathlib.Core.Path.{ap}

@@ -1,4 +1,3 @@
-use Prim.Native.Nat.{◌-◌}
 use native.Mathlib.Omega.{arith}
 use borrow.Author.Rules.{rules}
 use Rattle.table.proofs.lines.WriteLaws.{no-cell-lines, count-inside, cell-cuttable, line-count-fits, cell-line-room, cell-byte-room, cell-byte-few, cell-lines, all-lengths-written, all-text-written}

@@ -1,4 +1,3 @@
-use Prim.Native.Nat.{◌-◌}
 use borrow.Author.Rules.{rules}
 use Rattle.table.proofs.sections.WriteLaws.{no-section, section-fits, section-next, sections-done}
 use Rattle.table.proofs.sections.write_sections.Goals as goal

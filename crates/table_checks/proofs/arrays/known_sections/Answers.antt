@@ -1,4 +1,3 @@
-use Prim.Native.Nat.{◌-◌}
 use Rattle.table_checks.proofs.arrays.ArrayLaws.{unknown-here, known-here, all_known}
 use borrow.Author.Rules.{rules}
 use Rattle.table_checks.proofs.arrays.known_sections.Goals as goal

@@ -1,4 +1,3 @@
-use Prim.Native.Nat.{◌-◌}
 use Rattle.table_checks.proofs.cover.LevelLaws.{not_at, at_level, all-at}
 use borrow.Author.Rules.{rules}
 use Rattle.table_checks.proofs.cover.all_at.Goals as goal

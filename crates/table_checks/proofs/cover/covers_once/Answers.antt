@@ -1,4 +1,3 @@
-use Prim.Native.Nat.{◌-◌}
 use Rattle.table_checks.proofs.rules.OrderLaws.{sum_fits}
 use Rattle.table_checks.proofs.cover.CoverLaws.{right-fits, bottom-fits, none-heaped, cell-placed, not-level, cover-told}
 use borrow.Author.Rules.{rules}

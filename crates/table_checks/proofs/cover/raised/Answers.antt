@@ -1,4 +1,3 @@
-use Prim.Native.Nat.{◌-◌}
 use Rattle.table_checks.proofs.cover.LevelLaws.{raised-none, raised-more, raised-whole}
 use borrow.Author.Rules.{rules}
 use Rattle.table_checks.proofs.cover.raised.Goals as goal

@@ -1,4 +1,3 @@
-use Prim.Native.Nat.{◌-◌}
 use Rattle.table_checks.proofs.rules.OrderLaws.{sum_fits, none_yet, one_outside, one_inside, none-outside}
 use borrow.Author.Rules.{rules}
 use Rattle.table_checks.proofs.rules.all_inside.Goals as goal

@@ -1,4 +1,3 @@
-use Prim.Native.Nat.{◌-◌}
 use Rattle.table_checks.proofs.rules.OrderLaws.{order-broken, order-kept, all-ordered}
 use borrow.Author.Rules.{rules}
 use Rattle.table_checks.proofs.rules.in_order.Goals as goal

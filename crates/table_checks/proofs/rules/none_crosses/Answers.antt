@@ -1,4 +1,3 @@
-use Prim.Native.Nat.{◌-◌}
 use Rattle.table_checks.proofs.rules.OrderLaws.{sum_fits}
 use Rattle.table_checks.proofs.rules.SectionLaws.{none_yet, first-row, some-row, last_row, one-crosses, one-whole, all_whole}
 use borrow.Author.Rules.{rules}

@@ -1,4 +1,3 @@
-use Prim.Native.Nat.{◌-◌}
 use Rattle.table_checks.proofs.rules.SectionLaws.{falls-here, rises-here, all-rise}
 use borrow.Author.Rules.{rules}
 use Rattle.table_checks.proofs.rules.sections_run.Goals as goal

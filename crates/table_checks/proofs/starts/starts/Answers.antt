@@ -1,4 +1,3 @@
-use Prim.Native.Nat.{◌-◌}
 use Rattle.table_checks.proofs.starts.StartLaws.{no-marks, start_small, mark-more, all-marked}
 use borrow.Author.Rules.{rules}
 use Rattle.table_checks.proofs.starts.starts.Goals as goal

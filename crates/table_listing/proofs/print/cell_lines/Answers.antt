@@ -1,4 +1,3 @@
-use Prim.Native.Nat.{◌-◌}
 use Rattle.table_listing.proofs.print.CellLaws.{turn-less, cells-none, used-fits, cells-next, cells-all}
 use borrow.Author.Rules.{rules}
 use Rattle.table_listing.proofs.print.cell_lines.Goals as goal

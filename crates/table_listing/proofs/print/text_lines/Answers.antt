@@ -1,4 +1,3 @@
-use Prim.Native.Nat.{◌-◌}
 use Rattle.table_listing.proofs.print.TextLaws.{texts-none, texts-next, texts-all}
 use Rattle.table_listing.proofs.print.text_lines.Goals as goal
 

@@ -1,8 +1,6 @@
-use Prim.Native.Nat.{◌-◌}
-use mathlib.Core.Logic.{⊎_elim}
 use native.Mathlib.Omega.{arith}
 use borrow.Author.Rules.{rules}
-use Rattle.trace.proofs.search.SearchLaws.{search-starts, column-without-plus, column-too-short, line-without-plus, line-searched, none_found, one_found, no-corner}
+use Rattle.trace.proofs.search.SearchLaws.{search-starts, none_found, one_found, no-corner}
 use Rattle.trace.proofs.search.find_rect.Goals as goal
 
 pub returns-then-glyphs-corner-ne-PLUS : goal.returns-then-glyphs-corner-ne-PLUS

@@ -1,4 +1,3 @@
-use Prim.Native.Nat.{◌-◌}
 use borrow.Author.Rules.{rules}
 use Rattle.text.proofs.ByteColumnsLaws.{added_none, added_next, added-fits, added-all, added-few}
 use Rattle.utf8.proofs.columns.added_columns.Goals as goal

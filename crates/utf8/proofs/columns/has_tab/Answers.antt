@@ -1,4 +1,3 @@
-use Prim.Native.Nat.{◌-◌}
 use borrow.Author.Rules.{rules}
 use Rattle.text.proofs.ByteColumnsLaws.{tab-next, tab-ends}
 use Rattle.utf8.proofs.columns.has_tab.Goals as goal

@@ -1,4 +1,3 @@
-use Prim.Native.Nat.{◌-◌}
 use borrow.Author.Rules.{rules}
 use Rattle.text.proofs.PlainLaws.{plain-next, plain-ends}
 use Rattle.utf8.proofs.line_text.is_plain.Goals as goal

@@ -1,4 +1,3 @@
-use Prim.Native.Nat.{◌-◌}
 use borrow.Author.Rules.{rules}
 use Rattle.text.proofs.Utf8Laws.{well-on, end-inside, end_fits, fewer-left, ill-formed, well-to-the-end}
 use Rattle.utf8.proofs.CommonLaws.{sized_on, sized_inside, sized-fits, sized-left}

@@ -1,4 +1,3 @@
-use Prim.Native.Nat.{◌-◌}
 use borrow.Author.Rules.{rules}
 use Rattle.trace.proofs.skyline.SkyLaws.{first_on, first-here, first-nowhere}
 use Rattle.trace.proofs.skyline.Skyline.first_at.Goals as goal

@@ -1,4 +1,3 @@
-use Prim.Native.Nat.{◌-◌}
 use borrow.Author.Rules.{rules}
 use Rattle.trace.proofs.skyline.SkyLaws.{level-on, not-level, all-level}
 use Rattle.trace.proofs.skyline.Skyline.is_level.Goals as goal

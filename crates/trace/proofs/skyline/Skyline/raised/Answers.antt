@@ -1,4 +1,3 @@
-use Prim.Native.Nat.{◌-◌}
 use borrow.Author.Rules.{rules}
 use Rattle.trace.proofs.skyline.SkyLaws.{raise-none, raise-on, raise-whole}
 use Rattle.trace.proofs.skyline.Skyline.raised.Goals as goal

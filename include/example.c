@@ -1,6 +1,6 @@
 /* Reads a sheet from standard input and prints its redrawing.
  *
- *     cc -Iinclude include/example.c target/staticlib/libgridtable.a -o example
+ *     cc -Iinclude include/example.c crates/gridtable/out/libgridtable.a -o example
  *     ./example < examples/untidy.txt
  */
 #include <stdio.h>

@@ -88,7 +88,8 @@ impl Folder {
     }
 
     fn close(self) -> io::Result<()> {
-        let source = "// Answers of the Rust, as equations over the definitions.\n";
+        let source =
+            "// Answers of the Rust, as equations over the definitions.\n#![tactic(auto)]\n";
         fs::write(self.path.join("src/lib.rt"), source)?;
         fs::write(self.path.join("proofs/Lib.antt"), self.modules)
     }

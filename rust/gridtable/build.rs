@@ -5,6 +5,8 @@ use std::process::{Command, exit};
 use std::{env, fs};
 
 const ARCHIVE: &str = "libgridtable.a";
+/// The folder in the project in which `rt lib` makes it.
+const CRATE: &str = "crates/gridtable";
 /// The folder of the archive, where it is not the project's own.
 const VARIABLE: &str = "GRID_LIB_DIR";
 const DECLARED: &str = "src/ffi.rs";
@@ -31,34 +33,36 @@ fn archive() -> PathBuf {
         return fs::canonicalize(&archive)
             .unwrap_or_else(|e| stop(&format!("{VARIABLE}: {}: {e}", archive.display())));
     }
-    let crate_folder = PathBuf::from(env::var_os("CARGO_MANIFEST_DIR").unwrap());
-    let project = crate_folder.ancestors().nth(2).unwrap();
-    let archive = project.join("target/staticlib").join(ARCHIVE);
+    let project = project();
+    let archive = project.join(CRATE).join("out").join(ARCHIVE);
     if !archive.is_file() {
-        make(project, &archive);
+        make(&project, &archive);
     }
     archive
 }
 
+fn project() -> PathBuf {
+    let crate_folder = PathBuf::from(env::var_os("CARGO_MANIFEST_DIR").unwrap());
+    crate_folder.ancestors().nth(2).unwrap().to_path_buf()
+}
+
 fn make(project: &Path, archive: &Path) {
+    let folder = project.join(CRATE);
     let how = format!(
-        "run `rt staticlib gridtable` in {}, or set {VARIABLE} to the folder of {ARCHIVE}",
-        project.display()
+        "run `rt lib` in {}, or set {VARIABLE} to the folder of {ARCHIVE}",
+        folder.display()
     );
     if !project.join("crates.txt").is_file() {
         stop(&format!("{} is not there; {how}", archive.display()));
     }
-    let made = Command::new("rt")
-        .args(["staticlib", "gridtable"])
-        .current_dir(project)
-        .status();
+    let made = Command::new("rt").arg("lib").current_dir(&folder).status();
     match made {
         Err(e) => stop(&format!(
             "{} is not there, nor is rt ({e}); {how}",
             archive.display()
         )),
         Ok(status) if !status.success() || !archive.is_file() => stop(&format!(
-            "`rt staticlib gridtable` did not make {}; {how}",
+            "`rt lib` did not make {}; {how}",
             archive.display()
         )),
         Ok(_) => {}
@@ -80,8 +84,9 @@ fn require_calls(archive: &Path) {
         let name = format!("{call}\0").into_bytes();
         if !bytes.windows(name.len()).any(|part| part == name) {
             stop(&format!(
-                "{} is without the call {call}; make it again with `rt staticlib gridtable`",
-                archive.display()
+                "{} is without the call {call}; make it again with `rt lib` in {}",
+                archive.display(),
+                project().join(CRATE).display()
             ));
         }
     }

@@ -51,9 +51,9 @@ impl Case {
     /// definitions start with the same word.
     pub fn call(&mut self, name: &str, word: &str, given: &str, outputs: &Outputs) {
         let lent = &outputs.lent;
-        let answered = format!("{word}Answer {given} ({lent})");
+        let answered = format!("{word}_answer {given} ({lent})");
         self.answer(name, &answered, &outputs.answer);
-        let afterwards = format!("{word}Afterwards {given} ({lent})");
+        let afterwards = format!("{word}_afterwards {given} ({lent})");
         self.equation(&format!("{name}-after"), &afterwards, &outputs.after);
     }
 }

@@ -8,14 +8,12 @@ use crate::paper::limits;
 use crate::parser::grid_table;
 
 pub const HEAD: &str = "\
-use mathlib.Core.Path.{_≡_, refl}
-use mathlib.Core.List.{List, [], _∷_, _++_}
-use mathlib.Core.Option.{none, some}
-use Prim.Native.Nat.{ℕ}
-use lib.ListN.{replicate}
-use Rattle·grid.specs.Answer.{accept, refuse}
-use Rattle·sourcepos.specs.LineEndCalls.{Register, addAnswer, addAfterwards, findAnswer, remapAnswer}
-use Rattle·sourcepos.specs.Computing.{positions}
+use mathlib.Core.Path.{◌≡◌, refl}
+use Rattle.std.specs.Prelude.{[], ◌∷◌, ◌++◌, replicate}
+use Rattle.std.proofs.Math.Option.{none, some}
+use Rattle.grid.specs.Answer.{accept, refuse}
+use Rattle.sourcepos.specs.LineEndCalls.{Register, add_answer, add_afterwards, find_answer, remap_answer}
+use Rattle.sourcepos.specs.Computing.{positions}
 ";
 
 pub fn cases(rng: &mut Rng, n: usize) -> Vec<Option<Case>> {
@@ -76,20 +74,20 @@ fn case(rng: &mut Rng, i: usize) -> Case {
         Err(_) => format!("register{i}"),
     };
     let count = added.map(|longer| longer.len().to_string());
-    case.answer(&format!("add-{i}"), &format!("addAnswer {given}"), &count);
-    let afterwards = format!("addAfterwards {given}");
+    case.answer(&format!("add-{i}"), &format!("add_answer {given}"), &count);
+    let afterwards = format!("add_afterwards {given}");
     case.equation(&format!("add-{i}-after"), &afterwards, &after);
 
     let eol = found.map(|found| match found {
         Some(eol) => format!("some {eol}"),
         None => "none".to_string(),
     });
-    let call = format!("findAnswer register{i} {line} {column}");
+    let call = format!("find_answer register{i} {line} {column}");
     case.answer(&format!("find-{i}"), &call, &eol);
 
     let (lines, bytes): (Vec<usize>, Vec<usize>) = fragments.into_iter().unzip();
     let given = format!("{} ({}) ({})", lines.len(), list(&lines), list(&bytes));
-    let call = format!("remapAnswer {given} ({})", end(moved));
+    let call = format!("remap_answer {given} ({})", end(moved));
     case.answer(&format!("remap-{i}"), &call, &remapped.map(end));
     case
 }

@@ -6,14 +6,11 @@ use crate::make::{self, Rng};
 use crate::paper::page::{self, PageTable};
 
 pub const HEAD: &str = "\
-use mathlib.Core.Path.{_≡_, refl}
-use mathlib.Core.Bool.{true, false}
-use mathlib.Core.List.{List, [], _∷_}
-use Prim.Native.Nat.{ℕ}
-use lib.ListN.{replicate}
-use Rattle·grid.specs.Answer.{accept, refuse}
-use Rattle·html.specs.PageCall.{PageSizes, PageArrays, pageAnswer, pageAfterwards}
-use Rattle·html.specs.Computing.{rendering}
+use mathlib.Core.Path.{◌≡◌, refl}
+use Rattle.std.specs.Prelude.{true, false, [], ◌∷◌, replicate}
+use Rattle.grid.specs.Answer.{accept, refuse}
+use Rattle.html.specs.PageCall.{PageSizes, PageArrays, page_answer, page_afterwards}
+use Rattle.html.specs.Computing.{rendering}
 ";
 
 /// Larger ones take too long to compute.

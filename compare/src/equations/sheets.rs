@@ -11,16 +11,14 @@ use crate::paper::{Answer, cut, refuse};
 use crate::{against, given, paper};
 
 pub const HEAD: &str = "\
-use mathlib.Core.Path.{_≡_, refl}
-use mathlib.Core.List.{List, [], _∷_}
-use Prim.Native.Nat.{ℕ}
-use lib.ListN.{replicate}
-use Rattle·grid.specs.Answer.{accept, refuse}
-use Rattle·grid.specs.Flat.{FlatDrawing}
-use Rattle·grid.specs.LayoutCall.{LayoutSpace, layoutAnswer, layoutAfterwards}
-use Rattle·grid.specs.TableCall.{TableSpace, tableAnswer, tableAfterwards, cellAnswer, cellAfterwards}
-use Rattle·sourcepos.specs.PositionsCall.{FlatPlaced, positionsAnswer, positionsAfterwards, cellPositionAnswer}
-use Rattle·sourcepos.specs.Computing.{positions}
+use mathlib.Core.Path.{◌≡◌, refl}
+use Rattle.std.specs.Prelude.{[], ◌∷◌, replicate}
+use Rattle.grid.specs.Answer.{accept, refuse}
+use Rattle.grid.specs.Flat.{FlatDrawing}
+use Rattle.grid.specs.LayoutCall.{LayoutSpace, layout_answer, layout_afterwards}
+use Rattle.grid.specs.TableCall.{TableSpace, table_answer, table_afterwards, cell_answer, cell_afterwards}
+use Rattle.sourcepos.specs.PositionsCall.{FlatPlaced, positions_answer, positions_afterwards, cell_position_answer}
+use Rattle.sourcepos.specs.Computing.{positions}
 ";
 
 /// Larger ones take too long to compute.
@@ -105,7 +103,7 @@ fn case(rng: &mut Rng, i: usize, sheet: &Sheet) -> Case {
     table(rng, &mut case, i, &read);
     cells(rng, &mut case, i, &read);
     let drawing = [format!("sheet{i}"), list(&lines), list(&table_bytes)];
-    let names = ["drawing", "numbers", "tableBytes"];
+    let names = ["drawing", "numbers", "table_bytes"];
     case.name(
         &format!("placed{i}"),
         "FlatPlaced",
@@ -169,7 +167,7 @@ fn four(position: Position) -> [usize; 4] {
 }
 
 fn position(position: Position) -> String {
-    let names = ["startLine", "startColumn", "endLine", "endColumn"];
+    let names = ["start_line", "start_column", "end_line", "end_column"];
     numbers(&names, &four(position))
 }
 
@@ -199,7 +197,7 @@ fn place(rng: &mut Rng, case: &mut Case, i: usize, found: &Answer<Positions>) {
             Some(&cell) => Ok(position(cell)),
         },
     };
-    let call = format!("cellPositionAnswer {given} {k}");
+    let call = format!("cell_position_answer {given} {k}");
     case.answer(&format!("position-{i}-{k}"), &call, &one);
 }
 

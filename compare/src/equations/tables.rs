@@ -9,14 +9,12 @@ use crate::paper::sheet::Sheet;
 use crate::paper::table::Table;
 
 pub const HEAD: &str = "\
-use mathlib.Core.Path.{_≡_, refl}
-use mathlib.Core.List.{List, [], _∷_}
-use Prim.Native.Nat.{ℕ}
-use lib.ListN.{replicate}
-use Rattle·grid.specs.Answer.{accept, refuse}
-use Rattle·grid.specs.Flat.{TableSizes, TableArrays}
-use Rattle·drawing.specs.RedrawCall.{RedrawSpace, redrawAnswer, redrawAfterwards}
-use Rattle·drawing.specs.Computing.{redrawing}
+use mathlib.Core.Path.{◌≡◌, refl}
+use Rattle.std.specs.Prelude.{[], ◌∷◌, replicate}
+use Rattle.grid.specs.Answer.{accept, refuse}
+use Rattle.grid.specs.Flat.{TableSizes, TableArrays}
+use Rattle.drawing.specs.RedrawCall.{RedrawSpace, redraw_answer, redraw_afterwards}
+use Rattle.drawing.specs.Computing.{redrawing}
 ";
 
 /// Larger ones take too long to compute.

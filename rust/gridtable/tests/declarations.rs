@@ -69,7 +69,8 @@ fn calls() -> BTreeMap<String, (Arguments, String)> {
 fn structs() -> BTreeMap<String, Arguments> {
     let source = sources(&project().join("crates"));
     let mut structs = BTreeMap::new();
-    for part in source.split("#[repr(C)]\npub struct ").skip(1) {
+    let head = "#[repr(C)]\n#[derive(Clone, Copy)]\npub struct ";
+    for part in source.split(head).skip(1) {
         let (name, rest) = part.split_once(" {").unwrap();
         let (fields, _) = rest.split_once('}').unwrap();
         let fields = fields.split(',').filter_map(|field| {

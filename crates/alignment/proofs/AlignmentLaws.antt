@@ -33,7 +33,7 @@ use Rattle.drawing.proofs.RoundTrip.{keeps-fine}
 use Rattle.representation.specs.TableIn.{table_in, no_cell, cell_in, Tabled}
 use Rattle.representation.proofs.TableInLaws.{columns-length, columns-at, cells-length, cells_at}
 use Rattle.reading.specs.Checks.{place_of}
-use Rattle.reading.specs.declared.checks.Place.{Place}
+use Rattle.std.proofs.Common.{Option}
 use Rattle.sizes.proofs.FactLaws.{Facts, tabled-facts}
 use Rattle.alignment.specs.Corners.{any_corner, Markable, Cornered, lacks_corner}
 
@@ -174,7 +174,7 @@ module _ {origin columns n : ℕ} {cols sections cells lengths text : List ℕ} 
                 go false = refl
 
         -- The column that the search finds is that of refusal 10.
-        pub misaligned-told : (r : Place) → place_of r ≡ find (lacks_corner cols marks) (up_to columns) → place_of r ≡ misaligned v
+        pub misaligned-told : (r : Option ℕ) → place_of r ≡ find (lacks_corner cols marks) (up_to columns) → place_of r ≡ misaligned v
         unfolding misaligned
         misaligned-told r found =
             found ∙ find-agree (lacks_corner cols marks) (λ k. colons_misplaced v k (column_alignment v k)) (up_to columns) (λ k m. lacks-told k (omega (arith, range-mem 0 columns k m)))

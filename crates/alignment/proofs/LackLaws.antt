@@ -22,12 +22,6 @@ pub none_passed : (cols marks : List ℕ) → Passed cols marks 0
 none_passed cols marks = record { before = λ j low. absurd (omega arith) }
 
 module _ {cols marks : List ℕ} {k : ℕ} (p : Passed cols marks k) where
-  pub one-passed : not (eqb (get_or cols (2 * k) 0) 0) && eqb (get_or marks k 0) 0 ≡ false → Passed cols marks (k + 1)
-  one-passed e =
-      record {
-        before = λ j low. ⊎_elim (λ (same : j ≡ k). rw same e) (λ (less : j < k). p.before j less) (eq-or-lt_of_le (omega arith));
-      }
-
   pub lack-found : (columns : ℕ) → k < columns → not (eqb (get_or cols (2 * k) 0) 0) && eqb (get_or marks k 0) 0 ≡ true → some k ≡ find (lacks_corner cols marks) (up_to columns)
   lack-found columns h e = sym (find_first (lacks_corner cols marks) 0 columns k (omega arith) (omega arith) (λ i a b. p.before i b) e)
 

@@ -4,16 +4,13 @@
 
 ghost use Rattle.std.specs.Prelude.{◌*◌, ◌≤◌, ◌≡◌, map, eqb, length};
 ghost use Rattle.seq.specs.Lists.{count, find, up_to};
-ghost use Rattle.grid.specs.Flat.{code_section};
+ghost use Rattle.grid.specs.Flat.{code_section, section_code};
 ghost use Rattle.drawing.specs.GridRules.{is_head, is_foot};
 ghost use Rattle.reading.specs.Checks.{place_of};
 ghost use Rattle.alignment.specs.Corners.{Markable, Cornered, lacks_corner};
 
-use reading::checks::Place;
-
-const HEAD: u8 = 0;
-
-const FOOT: u8 = 2;
+use grid::GridTableSection;
+use table_checks::cell_entry::CellEntry;
 
 // How many rows are Head, and how many Foot. Foot rows and no Head row are refusal 9; else the
 // alignment line is the row line below the Head rows.
@@ -29,17 +26,16 @@ pub struct Corners {
     pub marks: [u8; 128],
 }
 
-// How many rows have this code.
-fn count_code(sections: &[u8], code: u8) -> usize
-    ensures { result ≡ count (eqb code) sections.now }
+// How many rows have the code of this section.
+fn count_section(sections: &[u8], section: GridTableSection) -> usize
+    ensures { result ≡ count (eqb (section_code section)) sections.now }
 {
+    let code = u8::from(section);
     let mut n = 0;
-    let mut i = 0;
-    while i < sections.len() {
-        if code == sections[i] {
+    for row in sections {
+        if code == *row {
             n += 1;
         }
-        i += 1;
     }
     n
 }
@@ -49,8 +45,8 @@ pub fn count_sections(sections: &[u8]) -> SectionCounts
         (result.heads ≡ count is_head all) × (result.foots ≡ count is_foot all) }
 {
     SectionCounts {
-        heads: count_code(sections, HEAD),
-        foots: count_code(sections, FOOT),
+        heads: count_section(sections, GridTableSection::Head),
+        foots: count_section(sections, GridTableSection::Foot),
     }
 }
 
@@ -60,32 +56,26 @@ pub fn corners_on(cells: &[u16], n: usize, line: usize) -> Corners
     ensures { Cornered cells.now n line result.marks }
 {
     let mut marks = [0u8; 128];
-    let mut k = 0;
-    while k < n {
-        let top = cells[5 * k] as usize;
-        let left = cells[5 * k + 1] as usize;
-        let right = left + cells[5 * k + 2] as usize;
-        let bottom = top + cells[5 * k + 3] as usize;
-        if (line == top) | (line == bottom) {
-            marks[left] = 1;
-            marks[right] = 1;
+    for k in 0..n {
+        let cell = CellEntry::at(cells, k);
+        if (line == cell.row as usize) | (line == cell.bottom()) {
+            marks[cell.column as usize] = 1;
+            marks[cell.right()] = 1;
         }
-        k += 1;
     }
     Corners { marks }
 }
 
 // 10: the lowest aligned column without a corner at its left.
-pub fn misaligned(cols: &[u16], columns: usize, corners: Corners) -> Place
+pub fn misaligned(cols: &[u16], columns: usize, corners: Corners) -> Option<usize>
     requires { (columns ≤ 127) × (length cols.now ≡ 2 * columns) }
     ensures { place_of result ≡ find (lacks_corner cols.now corners.marks) (up_to columns) }
 {
-    let mut k = 0;
-    while k < columns {
+    // The number itself: one that stands for no alignment counts as aligned.
+    for k in 0..columns {
         if (cols[2 * k] != 0) & (corners.marks[k] == 0) {
-            return Place::At(k);
+            return Some(k);
         }
-        k += 1;
     }
-    Place::Nowhere
+    None
 }

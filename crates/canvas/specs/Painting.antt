@@ -1,5 +1,5 @@
 -- What each step of drawing puts on the canvas, slot by slot, over what stands there.
-use Rattle.std.specs.Prelude.{ℕ, zero, suc, ◌+◌, ◌*◌, ◌-◌, ◌<◌, ◌≡◌, Bool, ◌&&◌, ◌||◌, cond, List, [], ◌∷◌, get_or, eqb}
+use Rattle.std.specs.Prelude.{ℕ, zero, suc, ◌+◌, ◌*◌, ◌-◌, ◌<◌, ◌≡◌, Bool, false, ◌&&◌, ◌||◌, cond, List, Option, Some, None, get_or, eqb}
 use Rattle.seq.specs.Lists.{range, up_to, any, find, or_default}
 use Rattle.text.specs.Characters.{plus, colon}
 use Rattle.grid.specs.Values.{Rect}
@@ -15,8 +15,12 @@ pub record Drawn (put : ℕ → ℕ → ℕ → ℕ) (before after : List ℕ) :
 
 -- ---- one cell
 -- is line y a rule of `=`
+abbrev pub is_line : Option ℕ → ℕ → Bool
+is_line None y = false
+is_line (Some line) y = eqb y line
+
 abbrev pub is_ruled : Rules → ℕ → Bool
-is_ruled rules y = any (eqb y) (rules.head ∷ rules.foot ∷ rules.last ∷ [])
+is_ruled rules y = is_line rules.head y || is_line rules.foot y || is_line rules.last y
 
 -- the byte of line y's borders
 abbrev pub rule_byte : Rules → ℕ → ℕ

@@ -22,12 +22,12 @@ use crate::borders::draw_borders;
 use crate::colons::draw_colons;
 use crate::corners::draw_corners;
 
-// The lines that are `=` rules; 255 where there is none.
+// The lines that are `=` rules.
 #[derive(Clone, Copy)]
 pub struct Rules {
-    pub head: usize,
-    pub foot: usize,
-    pub last: usize,
+    pub head: Option<usize>,
+    pub foot: Option<usize>,
+    pub last: Option<usize>,
 }
 
 // Draws the borders, corners and colons of all cells. `row` is the alignment line, marks[k] is 1
@@ -46,7 +46,7 @@ pub fn draw_canvas(
     requires n_bound { (n ≤ 1024) × (4 * n ≤ length rects.now) × (slot_space ≤ length canvas.old) }
     requires inside { (r : Rect) → Memᴰ r (rects_of n rects.now) → Inside 128 128 r }
     requires row_bound { (row < 128) × (columns < 128) × (2 * columns ≤ length cols.now) }
-    requires by_index { ((i j : ℕ) → i < j → j ≤ columns → get_or xs i 0 < get_or xs j 0) × (get_or xs columns 0 < 128) }
+    requires rising { ((i j : ℕ) → i < j → j ≤ columns → get_or xs i 0 < get_or xs j 0) × (get_or xs columns 0 < 128) }
     ensures { let frames = rects.now in
         let drawn = canvas.new in
         ((v : Canvas) → Drawable v n frames rules cols.now columns xs marks row → Pictured v n frames drawn) }

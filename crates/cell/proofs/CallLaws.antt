@@ -3,20 +3,19 @@ use Prim.Native.Nat.{ℕ, ◌≤◌, ◌<◌}
 use mathlib.Core.Path.{◌≡◌, refl, sym, ap, ◌∙◌}
 use mathlib.Core.Bool.{Bool, true, false}
 use mathlib.Core.List.{List, map, map-map}
-use native.Mathlib.Omega.{arith}
 use lib.Dec.{leb}
 use lib.ListN.{length, get_or}
 use borrow.Author.Tests.{lt-ltb, le-ltb, leb-true, leb-false}
 use Rattle.seq.proofs.Positions.{get_d_map}
 use Rattle.grid.specs.Limits.{max_lines}
-use Rattle.grid.specs.Answer.{Answer, refuse}
+use Rattle.grid.specs.Answer.{Answer, accept, refuse}
 use Rattle.grid.specs.Values.{Cell}
 use Rattle.grid.specs.Slots.{grid_of}
 use Rattle.grid.specs.Layout.{inner_lines, cell_read, layout_of}
 use Rattle.grid.specs.Cut.{cell_fragments}
 use Rattle.grid.specs.CutCall.{CutNumbers, cut_numbers}
 use Rattle.grid.specs.Flat.{FlatDrawing, lines_of}
-use Rattle.grid.specs.LayoutCall.{LayoutSpace, drawing}
+use Rattle.grid.specs.LayoutCall.{LayoutSpace}
 use Rattle.representation.specs.LayoutParts.{rects_answer}
 use Rattle.representation.specs.Arrays.{rect_in}
 use Rattle.grid.specs.TableCall.{starts_short, no_cell, cell_cuts, cell_answer, cell_afterwards}
@@ -26,28 +25,15 @@ use Rattle.representation.proofs.RectsLaws.{length-rects, get_or-rects}
 use Rattle.representation.proofs.TablePartsLaws.{short-cell, refused-cell, past_the_end, finished-cell}
 use Rattle.cell.specs.Text.{source_in, fragment_between, no_rect}
 use Rattle.cell.specs.Cuts.{cuts_of}
-use Rattle.cell.specs.Answer.{cell_count_of, cell_array_of, Cutting}
+use Rattle.cell.specs.Answer.{cell_count_of, cell_array_of}
 use Rattle.cell.proofs.CellLaws.{rect-held}
-use Rattle.reading.specs.Call.{SheetArrays, lines_in, rects_in, TracedSheet, Reading}
-use Rattle.reading.specs.declared.Outcome.{Outcome}
-use Rattle.reading.proofs.SheetLaws.{traced-room, traced-cover}
-use Rattle.cell.proofs.FrameLaws.{traced-framed, traced-cuts}
-
-pub traced-cutting : (a : SheetArrays) (o : Outcome) → TracedSheet a o → (starts : List ℕ) → max_lines ≤ length starts
-    → Cutting a.lengths a.columns a.text a.offsets a.rects starts o.cells
-traced-cutting a o t starts room =
-    record {
-      sheet = t.sheet;
-      few_bytes = t.few_bytes;
-      offset_room = t.roomy.offset_room;
-      start_room = omega (arith, t.sheet.few_lines, room);
-      few = t.through.few;
-      rect_room = traced-room a o t;
-      framed = traced-framed a o t;
-    }
+use Rattle.reading.specs.Call.{SheetArrays, sheet_of, lines_in, rects_in, TracedSheet}
+use Rattle.reading.specs.declared.Reading.{Reading}
+use Rattle.reading.proofs.SheetLaws.{traced-cover}
+use Rattle.cell.proofs.FrameLaws.{traced-cuts}
 
 -- ---- cell k of a traced drawing
-module _ (a : SheetArrays) (o : Outcome) (t : TracedSheet a o) (starts : List ℕ)
+module _ (a : SheetArrays) (o : Reading) (t : TracedSheet a o) (starts : List ℕ)
     (k : ℕ) (h : k < o.cells) where
   pub cell-here : get_or (layout_of (lines_in a) (grid_of (lines_in a)) (rects_in a o.cells)).cells k no_cell
       ≡ cell_read (grid_of (lines_in a)) (rects_in a o.cells) (rect_in a.rects k)
@@ -77,37 +63,35 @@ starts-enough : (starts : List ℕ) → max_lines ≤ length starts → starts_s
 unfolding starts_short
 starts-enough starts room = le-ltb (length starts) max_lines room
 
-module _ (w : LayoutSpace) (starts : List ℕ) (room : max_lines ≤ length starts) (lines bytes : ℕ) (a : SheetArrays) where
-  abbrev given : FlatDrawing
-  given = drawing lines bytes a.lengths a.columns a.text
+module _ (w : LayoutSpace) (starts : List ℕ) (room : max_lines ≤ length starts) (d : FlatDrawing) (k : ℕ) (out : List ℕ) where
+  pub cell-refused : {number place : ℕ} → refuse number place ≡ rects_answer w d
+      → (refuse number place ≡ cell_answer w (length starts) d k out) × (out ≡ cell_afterwards w (length starts) d k out)
+  cell-refused refused = refused-cell w (length starts) d k out (starts-enough starts room) (sym refused)
 
-  module _ (k : ℕ) (out : List ℕ) (s : Outcome) (r : Reading (rects_answer w given) a s) where
+  module _ (glyphs offsets rects : List ℕ) (s : Reading) (t : TracedSheet (sheet_of d glyphs offsets rects) s)
+      (accepted : accept (rects_in (sheet_of d glyphs offsets rects) s.cells) ≡ rects_answer w d) where
+    abbrev a : SheetArrays
+    a = sheet_of d glyphs offsets rects
+
     abbrev cuts : List CutNumbers
     cuts = cuts_of (source_in a starts) (rect_in a.rects k)
 
-    pub cell-refused : (s.number ≡ 0 → ⊥)
-        → (refuse s.number s.place ≡ cell_answer w (length starts) given k out)
-        × (out ≡ cell_afterwards w (length starts) given k out)
-    cell-refused nonzero = refused-cell w (length starts) given k out (starts-enough starts room) (r.refused nonzero)
-
-    cell-before : s.number ≡ 0 → k < s.cells
-        → (cuts_count_of cuts out ≡ cell_answer w (length starts) given k out)
-        × (cuts_array_of cuts out ≡ cell_afterwards w (length starts) given k out)
+    cell-before : k < s.cells
+        → (cuts_count_of cuts out ≡ cell_answer w (length starts) d k out)
+        × (cuts_array_of cuts out ≡ cell_afterwards w (length starts) d k out)
     unfolding lines_of
-    cell-before complete before =
-        let last = finished-cell w (length starts) given k out (starts-enough starts room) (r.accepted complete) (rw length-rects before) in
-        let same = sym (cuts-here a s (r.traced complete) starts k before) in
+    cell-before before =
+        let last = finished-cell w (length starts) d k out (starts-enough starts room) (sym accepted) (rw length-rects before) in
+        let same = sym (cuts-here a s t starts k before) in
         (ap (λ (l : List CutNumbers). cuts_count_of l out) same ∙ last.0, ap (λ (l : List CutNumbers). cuts_array_of l out) same ∙ last.1)
 
-    pub cell-finished : s.number ≡ 0 → (answer : Answer ℕ) (after : List ℕ)
-        → (answer ≡ cell_count_of s.cells k cuts out) × (after ≡ cell_array_of s.cells k cuts out)
-        → (answer ≡ cell_answer w (length starts) given k out) × (after ≡ cell_afterwards w (length starts) given k out)
-    cell-finished complete answer after told = go (leb s.cells k) refl where
+    pub cell-finished : (answer : Answer ℕ) (after : List ℕ) → answer ≡ cell_count_of s.cells k cuts out → after ≡ cell_array_of s.cells k cuts out
+        → (answer ≡ cell_answer w (length starts) d k out) × (after ≡ cell_afterwards w (length starts) d k out)
+    cell-finished answer after told written = go (leb s.cells k) refl where
       go : (past : Bool) → leb s.cells k ≡ past
-          → (answer ≡ cell_answer w (length starts) given k out) × (after ≡ cell_afterwards w (length starts) given k out)
+          → (answer ≡ cell_answer w (length starts) d k out) × (after ≡ cell_afterwards w (length starts) d k out)
       go true e =
           let last =
-          past_the_end w (length starts) given k out (starts-enough starts room) (r.accepted complete)
-          (rw length-rects (leb-true s.cells k e)) in
-          (rw e at told.0 ∙ last.0, rw e at told.1 ∙ last.1)
-      go false e = let last = cell-before complete (leb-false s.cells k e) in (rw e at told.0 ∙ last.0, rw e at told.1 ∙ last.1)
+          past_the_end w (length starts) d k out (starts-enough starts room) (sym accepted) (rw length-rects (leb-true s.cells k e)) in
+          (rw e at told ∙ last.0, rw e at written ∙ last.1)
+      go false e = let last = cell-before (leb-false s.cells k e) in (rw e at told ∙ last.0, rw e at written ∙ last.1)

@@ -7,6 +7,7 @@ use lib.ListN.{length, get_or, take, drop, length-take}
 use Rattle.seq.specs.Lists.{sum}
 use Rattle.seq.proofs.FlatMaps.{map_same}
 use Rattle.seq.proofs.Ranges.{range-mem}
+use Rattle.grid.specs.Limits.{max_lines}
 use Rattle.grid.specs.Values.{Line, Rect, Fragment, no_line}
 use Rattle.grid.specs.Slots.{grid_of, byte_at}
 use Rattle.grid.specs.Layout.{inner_lines, cell_read, layout_of}
@@ -16,12 +17,12 @@ use Rattle.grid.proofs.ByteLaws.{slot-in-line, border-climbs, bytes-rise}
 use Rattle.grid.proofs.CellLaws.{cut_at, cell-lines}
 use Rattle.representation.proofs.HoldsLaws.{held-byte}
 use Rattle.grid.proofs.SlotLaws.{line_at}
-use Rattle.cell.specs.Text.{source_in, fragment_between, cut_between, kept_lines, Cuttable, Framed}
+use Rattle.cell.specs.Text.{source_in, fragment_between, cut_between, kept_lines, Cuttable, AllFramed, SourceReady}
 use Rattle.reading.specs.Call.{SheetArrays, lines_in, rects_in, TracedSheet}
-use Rattle.reading.specs.declared.Outcome.{Outcome}
+use Rattle.reading.specs.declared.Reading.{Reading}
 use Rattle.reading.proofs.SheetLaws.{traced-holds, traced_lines, traced-height, traced-inside, traced-laid, traced-cover}
 
-module _ (a : SheetArrays) (o : Outcome) (t : TracedSheet a o) where
+module _ (a : SheetArrays) (o : Reading) (t : TracedSheet a o) where
   abbrev lines : List Line
   lines = lines_in a
 
@@ -77,9 +78,25 @@ module _ (a : SheetArrays) (o : Outcome) (t : TracedSheet a o) where
     pub traced-cut : (starts : List ℕ) → fragment_between (source_in a starts) r.left r.right y ≡ cut_at lines (grid_of lines) r y
     traced-cut starts = rw (byte r.left left-inside, byte r.right right-inside)
 
-  pub traced-framed : (starts : List ℕ) (r : Rect) → Memᴰ r (rects_in a o.cells) → Framed (source_in a starts) r
+  pub traced-framed : (starts : List ℕ) → AllFramed (source_in a starts) (rects_in a o.cells)
   traced-framed starts r m =
       record { inside = traced-inside a o t r m; borders = λ y above below. traced-cuttable m y above below starts }
+
+  -- ---- where its lines start
+  module _ (starts₀ : List ℕ) (room : max_lines ≤ length starts₀) where
+    pub traced-startable : (length a.lengths ≤ length starts₀) × (sum a.lengths ≤ 32768)
+    traced-startable = (omega (arith, t.sheet.few_lines, room), omega (arith, t.sheet.bytes_agree, t.few_bytes))
+
+    pub traced-ready : (starts : List ℕ) → length starts ≡ length starts₀ → ((y : ℕ) → y < length a.lengths → get_or starts y 0 ≡ sum (take y a.lengths))
+        → SourceReady (source_in a starts)
+    traced-ready starts same started =
+        record {
+          sheet = t.sheet;
+          few_bytes = t.few_bytes;
+          start_room = omega (arith, traced-startable.0, same);
+          started = started;
+          offset_room = t.roomy.offset_room;
+        }
 
   -- ---- the lines of the table read
   module _ (starts : List ℕ) {r : Rect} (m : Memᴰ r (rects_in a o.cells)) where

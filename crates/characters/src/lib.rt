@@ -5,9 +5,9 @@ pub mod known;
 
 ghost use Rattle.std.specs.Prelude.{◌≡◌};
 ghost use Rattle.seq.specs.Lists.{within as within_range};
-ghost use Rattle.text.specs.Characters.{takes_one, takes_two, width_of, tab_columns, is_columns, in_set, columns_of, span as span_of};
+ghost use Rattle.text.specs.Characters.{takes_one, takes_two, width_of, tab_columns, in_set, span as span_of};
 
-use text::{Column, Width};
+use text::Column;
 
 const TAB: u32 = 9;
 
@@ -33,19 +33,20 @@ fn takes_two(c: u32) -> bool
             | (within(0x4e00, 0x9fff, c) | (within(0xac00, 0xd7a3, c) | within(0xff01, 0xff60, c))))
 }
 
-pub fn width(c: u32) -> Width
+// None outside the set.
+pub fn width(c: u32) -> Option<usize>
     ensures { result ≡ width_of c }
 {
     if takes_one(c) {
-        return Width::Columns(1);
+        return Some(1);
     }
     if within(0x300, 0x36f, c) {
-        return Width::Columns(0);
+        return Some(0);
     }
     if takes_two(c) {
-        return Width::Columns(2);
+        return Some(2);
     }
-    Width::Outside
+    None
 }
 
 pub fn tab_columns(at: Column) -> usize
@@ -54,36 +55,19 @@ pub fn tab_columns(at: Column) -> usize
     TAB_STOP - at.0 % TAB_STOP
 }
 
-fn is_columns(w: Width) -> bool
-    ensures { result ≡ is_columns w }
-{
-    match w {
-        Width::Columns(_) => true,
-        Width::Outside => false,
-    }
-}
-
+#[tactic(auto, unfolding(text::specs::Characters::in_set))]
 pub fn in_set(c: u32) -> bool
     ensures { result ≡ in_set c }
 {
-    (c == TAB) | is_columns(width(c))
+    c == TAB || width(c).is_some()
 }
 
-fn columns_or_zero(w: Width) -> usize
-    ensures { result ≡ columns_of w }
-{
-    match w {
-        Width::Columns(n) => n,
-        Width::Outside => 0,
-    }
-}
-
-// The columns that a character takes where it stands.
+// The columns that a character takes where it stands, 0 outside the set.
 pub fn span(c: u32, at: Column) -> usize
     ensures { result ≡ span_of at.0 c }
 {
     if c == TAB {
         return tab_columns(at);
     }
-    columns_or_zero(width(c))
+    width(c).unwrap_or(0)
 }

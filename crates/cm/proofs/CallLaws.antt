@@ -17,8 +17,9 @@ use Rattle.drawing.specs.Redraw.{check_table, redraw, redraw_canvas, foot_withou
 use Rattle.drawing.specs.RedrawCall.{RedrawSpace, redraw_space_short, DrawingSizes, DrawingArrays, drawing_short, redraw_accepts, redraw_answer, redraw_afterwards}
 use Rattle.representation.specs.TableIn.{table_in}
 use Rattle.table_checks.specs.Checks.{after_checks}
-use Rattle.table_checks.specs.declared.Checked.{Checked}
-use Rattle.table_checks.specs.declared.Checked.TheVariants.{Fine, Refused}
+use Rattle.refusals.specs.Refusal.{number_of, place_of}
+use Rattle.refusals.specs.declared.Refusal.{Refusal}
+use Rattle.std.specs.Prelude.{Result, Ok, Err, ⊤}
 use Rattle.cm.specs.Late.{late_answer, canvas_answer, canvas_sizes, canvas_arrays}
 
 -- a call's own refusal comes after those of the drawing
@@ -91,7 +92,7 @@ module _ (w : RedrawSpace) {short : Bool} (test : short ≡ redraw_space_short w
           (ltb-false w.wides 1024 four.1, ltb-false w.rects rect_space five.1, ltb-false w.canvas slot_space six.1),
         )
 
-    module _ (origin : ℕ) (s : TableSizes) (t : TableArrays) (out : DrawingArrays) (r : Checked)
+    module _ (origin : ℕ) (s : TableSizes) (t : TableArrays) (out : DrawingArrays) (r : Result ⊤ Refusal)
         (checks : (next : Answer (List Line)) → after_checks r next ≡ refuse_if (table_contradicts s t) 13 (check_table origin (table_of_arrays s t) next)) where
       checked : redraw_accepts w origin s t out ≡ and_then (after_checks r (drawn origin (lent_table s t))) (finished out)
       unfolding redraw_accepts redraw table_of_arrays
@@ -100,12 +101,12 @@ module _ (w : RedrawSpace) {short : Bool} (test : short ≡ redraw_space_short w
           (contradicts-first (table_contradicts s t) (redraw origin (lent_table s t)) (finished out)
           ∙ ap (λ a. and_then a (finished out)) (sym (checks (drawn origin (lent_table s t)))))
 
-      pub check-refused : {number place : ℕ} → r ≡ Refused number place
-          → (refuse number place ≡ redraw_answer w origin s t out) × (out ≡ redraw_afterwards w origin s t out)
+      pub check-refused : {e : Refusal} → r ≡ Err e
+          → (refuse (number_of e) (place_of e) ≡ redraw_answer w origin s t out) × (out ≡ redraw_afterwards w origin s t out)
       unfolding redraw_answer redraw_afterwards
       check-refused is = rw (checked, is) (refl, refl)
 
-      pub table-drawn : r ≡ Fine → {answer : Answer DrawingSizes} {after : DrawingArrays}
+      pub table-drawn : r ≡ Ok tt → {answer : Answer DrawingSizes} {after : DrawingArrays}
           → (answer ≡ canvas_sizes (lent_table s t) origin out) × (after ≡ canvas_arrays (lent_table s t) origin out)
           → (answer ≡ redraw_answer w origin s t out) × (after ≡ redraw_afterwards w origin s t out)
       unfolding redraw_answer redraw_afterwards canvas_sizes canvas_arrays

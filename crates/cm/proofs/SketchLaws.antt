@@ -1,7 +1,7 @@
 -- A checked and measured table is the canvas that drawing asks for: `table-planned`, `table-sketched`, `table-texted`.
 use Prim.Native.Nat.{ℕ, ◌+◌, ◌-◌, ◌*◌, ◌≤◌, ◌<◌}
 use mathlib.Core.Path.{◌≡◌, refl, sym, ap, subst, ◌∙◌}
-use mathlib.Core.Bool.{Bool, true, false, cond}
+use mathlib.Core.Bool.{Bool, true, false, ◌||◌, cond}
 use mathlib.Core.List.{List, [], ◌∷◌, ◌++◌, map, Memᴰ}
 use mathlib.Core.Logic.{⊎_elim}
 use mathlib.Core.Option.{Option, none, some}
@@ -10,9 +10,10 @@ use native.Mathlib.Nat.{le_refl}
 use lib.Dec.{eqb}
 use lib.ListN.{length, get_or, take, length-map, length-take, get_or-eq_default}
 use lib.Seq.{get_or-take}
-use borrow.Author.Tests.{ne_eqb}
 use Rattle.seq.specs.Lists.{range, any, count, find, or_default}
 use Rattle.seq.proofs.Tests.{le-or-lt}
+use Rattle.seq.proofs.Walks.{or-false, or_assoc}
+use Rattle.std.specs.Prelude.{Some as Just, None as Nothing}
 use Rattle.seq.proofs.Finds.{find-in}
 use Rattle.seq.proofs.FlatMaps.{map_same}
 use Rattle.seq.proofs.Positions.{get_d_map, mem-get_or}
@@ -60,17 +61,14 @@ next_mark-few marks columns k = go (find (λ j. eqb (get_or marks j 0) 1) (range
   go (some j) e = let (f, same) = find-in (λ j. eqb (get_or marks j 0) 1) k (columns - k) j e in omega (arith, f.low, f.high)
 
 -- a rule of `=` under Head, above Foot and on the last line, or none
-module _ (y : ℕ) (low : y < 128) where
-  none-ruled : eqb y 255 ≡ false
-  none-ruled = ne_eqb y 255 (λ e. omega arith)
-
-  ruled-is : (no_head no_foot : Bool) (h f l : ℕ)
-      → any (eqb y) (cond no_head [] (h ∷ []) ++ cond no_foot [] (f ∷ l ∷ [])) ≡ any (eqb y) (cond no_head 255 h ∷ cond no_foot 255 f ∷ cond no_foot 255 l ∷ [])
-  unfolding any
-  ruled-is true true h f l = rw none-ruled refl
-  ruled-is true false h f l = rw none-ruled refl
-  ruled-is false true h f l = rw none-ruled refl
-  ruled-is false false h f l = refl
+ruled-is : (y : ℕ) (no_head no_foot : Bool) (h f l : ℕ)
+    → any (eqb y) (cond no_head [] (h ∷ []) ++ cond no_foot [] (f ∷ l ∷ []))
+    ≡ is_ruled (record { head = cond no_head Nothing (Just h); foot = cond no_foot Nothing (Just f); last = cond no_foot Nothing (Just l) }) y
+unfolding any
+ruled-is y true true h f l = refl
+ruled-is y true false h f l = ap (λ (t : Bool). eqb y f || t) (or-false (eqb y l))
+ruled-is y false true h f l = sym (or-false (eqb y h || false))
+ruled-is y false false h f l = ap (λ (t : Bool). eqb y h || (eqb y f || t)) (or-false (eqb y l)) ∙ sym (or_assoc (eqb y h) (eqb y f) (eqb y l))
 
 module _ {origin columns n : ℕ} {cols sections cells lengths text : List ℕ} (T : Tabled origin columns n cols sections cells lengths text)
     {starts ends firsts highs wides : List ℕ} {o : Offsets} (M : Measured columns n cols sections cells lengths text starts ends firsts highs wides o)
@@ -148,7 +146,7 @@ module _ {origin columns n : ℕ} {cols sections cells lengths text : List ℕ} 
 
       ruled : (y : ℕ) → y < 128 → any (eqb y) (canvas_of t).rules ≡ is_ruled (rules_at heads foots (length sections) o.ys) y
       ruled y u =
-          ap (any (eqb y)) rules-here ∙ ruled-is y u (eqb heads 0) (eqb foots 0) (get_or o.ys heads 0) (get_or o.ys (length sections - foots) 0) (get_or o.ys (length sections) 0)
+          ap (any (eqb y)) rules-here ∙ ruled-is y (eqb heads 0) (eqb foots 0) (get_or o.ys heads 0) (get_or o.ys (length sections - foots) 0) (get_or o.ys (length sections) 0)
 
       pub table-sketched : Sketched (canvas_of t) p
       unfolding canvas_of canvas_at

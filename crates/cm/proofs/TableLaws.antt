@@ -10,8 +10,7 @@ use Rattle.grid.specs.Values.{Table}
 use Rattle.grid.specs.Flat.{code_section}
 use Rattle.representation.specs.TableIn.{table_in, Tabled}
 use Rattle.reading.specs.Checks.{place_of}
-use Rattle.reading.specs.declared.checks.Place.{Place}
-use Rattle.reading.specs.declared.checks.Place.TheVariants.{At, Nowhere}
+use Rattle.std.specs.Prelude.{Option, Some, None}
 use Rattle.drawing.specs.GridRules.{is_head, is_foot}
 use Rattle.drawing.specs.Plain.{canvas_of}
 use Rattle.drawing.specs.Redraw.{foot_without_head, misaligned}
@@ -37,15 +36,15 @@ module _ {origin columns n : ℕ} {cols sections cells lengths text : List ℕ} 
       pub table-headed : foot_without_head t ≡ false
       table-headed = sym (foot-told T told) ∙ left
 
-      module _ {marks : List ℕ} (C : Cornered cells n heads marks) (r : Place) (found : place_of r ≡ find (lacks_corner cols marks) (up_to columns)) where
+      module _ {marks : List ℕ} (C : Cornered cells n heads marks) (r : Option ℕ) (found : place_of r ≡ find (lacks_corner cols marks) (up_to columns)) where
         aligned : place_of r ≡ misaligned (canvas_of t)
         aligned = misaligned-told T told table-headed C r found
 
-        pub corner-refused : (k : ℕ) → r ≡ At k → (refuse 10 k ≡ canvas_sizes t origin out) × (out ≡ canvas_arrays t origin out)
+        pub corner-refused : (k : ℕ) → r ≡ Some k → (refuse 10 k ≡ canvas_sizes t origin out) × (out ≡ canvas_arrays t origin out)
         unfolding canvas_sizes canvas_arrays canvas_answer
         corner-refused k is = rw (table-headed, ← (ap place_of (sym is) ∙ aligned)) (refl, refl)
 
-        pub late-same : r ≡ Nowhere → (answer : Answer DrawingSizes) (after : DrawingArrays) → (answer ≡ late_sizes (canvas_of t) origin out) × (after ≡ late_arrays (canvas_of t) origin out)
+        pub late-same : r ≡ None → (answer : Answer DrawingSizes) (after : DrawingArrays) → (answer ≡ late_sizes (canvas_of t) origin out) × (after ≡ late_arrays (canvas_of t) origin out)
             → (answer ≡ canvas_sizes t origin out) × (after ≡ canvas_arrays t origin out)
         unfolding canvas_sizes canvas_arrays canvas_answer late_sizes late_arrays
         late-same is answer after (a, b) = rw (table-headed, ← (ap place_of (sym is) ∙ aligned)) (a, b)

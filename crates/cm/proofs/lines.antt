@@ -1,5 +1,4 @@
 -- The lines of a drawing.
-pub mod LetteredLaws
 pub mod LineLaws
 pub mod WalkLineLaws
 pub mod InnerLaws

@@ -1,19 +1,22 @@
 -- The redraw call once 10 has passed: drawn size (2), 11, 12, and the drawing.
-use Rattle.std.specs.Prelude.{ℕ}
-use Rattle.grid.specs.Answer.{Answer, accept, refuse, refuse_if, refuse_at, and_then, afterwards}
+use Rattle.std.specs.Prelude.{ℕ, Result}
+use Rattle.grid.specs.Answer.{Answer, accept, refuse_if, refuse_at, and_then, afterwards}
 use Rattle.grid.specs.Slots.{grid_of}
 use Rattle.grid.specs.Flat.{FlatDrawing, flat_drawing}
 use Rattle.grid.specs.Values.{Table}
 use Rattle.drawing.specs.Plain.{Canvas, canvas_of, canvas_lines}
 use Rattle.drawing.specs.Redraw.{foot_without_head, misaligned, drawn_too_large, split_cell}
 use Rattle.drawing.specs.RedrawCall.{DrawingSizes, DrawingArrays, drawing_sizes, drawing_short, drawing_over}
-use Rattle.cm.specs.declared.draw.RedrawAnswer.{RedrawAnswer}
-use Rattle.cm.specs.declared.draw.RedrawAnswer.TheVariants.{Accepted, Refused}
+use Rattle.refusals.specs.Refusal.{answer_from}
+use Rattle.refusals.specs.declared.Refusal.{Refusal}
+use Rattle.cm.specs.declared.draw.DrawingSizes.{DrawingSizes as Written}
+
+abbrev pub written_sizes : Written → DrawingSizes
+written_sizes s = record { lines = s.lines; bytes = s.bytes }
 
 -- document 01's number, place and values for each case of the answer
-abbrev pub answer_of : RedrawAnswer → Answer DrawingSizes
-answer_of (Accepted lines bytes) = accept (record { lines = lines; bytes = bytes })
-answer_of (Refused number place) = refuse number place
+abbrev pub answer_of : Result Written Refusal → Answer DrawingSizes
+answer_of r = answer_from written_sizes r
 
 unfoldable pub late_answer : Canvas → ℕ → DrawingArrays → Answer FlatDrawing
 late_answer v origin out =

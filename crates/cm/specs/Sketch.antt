@@ -1,5 +1,5 @@
 -- A canvas and the arguments that it is drawn from, once its sizes are known.
-use Rattle.std.specs.Prelude.{ℕ, ◌+◌, ◌-◌, ◌*◌, ◌≤◌, ◌<◌, ◌≡◌, cond, eqb, length, get_or}
+use Rattle.std.specs.Prelude.{ℕ, ◌+◌, ◌-◌, ◌*◌, ◌≤◌, ◌<◌, ◌≡◌, cond, eqb, Some, None, length, get_or}
 use mathlib.Core.List.{List, map, Memᴰ}
 use Rattle.seq.specs.Lists.{any}
 use Rattle.text.specs.Lines.{no_text}
@@ -11,13 +11,13 @@ use Rattle.canvas.specs.Painting.{is_ruled, next_mark}
 use Rattle.canvas.specs.declared.Rules.{Rules}
 use Rattle.cm.specs.Board.{Lettered}
 
--- the lines that are rules of `=`, 255 for none, from the number of Head and Foot rows and where the borders of rows stand
+-- the lines that are rules of `=`, from the number of Head and Foot rows and where the borders of rows stand
 abbrev pub rules_at : (heads foots rows : ℕ) → List ℕ → Rules
 rules_at heads foots rows ys =
     record {
-      head = cond (eqb heads 0) 255 (get_or ys heads 0);
-      foot = cond (eqb foots 0) 255 (get_or ys (rows - foots) 0);
-      last = cond (eqb foots 0) 255 (get_or ys rows 0);
+      head = cond (eqb heads 0) None (Some (get_or ys heads 0));
+      foot = cond (eqb foots 0) None (Some (get_or ys (rows - foots) 0));
+      last = cond (eqb foots 0) None (Some (get_or ys rows 0));
     }
 
 -- the arguments: how many columns, rows, cells, Head and Foot rows; the columns and cells as lent; where the borders of columns and rows

@@ -4,9 +4,9 @@ ghost use Rattle.text.specs.Columns.{columns_from};
 ghost use Rattle.text.specs.Utf8.{char_indices, well_formed};
 
 use characters::known::span_in_set;
-use text::{ByteAt, Column};
+use text::{ByteAt, Character, Column};
 use utf8::columns::{added_columns, has_tab};
-use utf8::known::{Known, known_character};
+use utf8::known::known_character;
 
 // columns, character by character.
 fn columns_decoded(line: &[u8], column: Column) -> Column
@@ -16,8 +16,9 @@ fn columns_decoded(line: &[u8], column: Column) -> Column
     let first = column.0;
     let mut byte = 0;
     let mut n = 0;
+    // A while: characters have different sizes.
     while byte < line.len() {
-        let Known { value, size } = known_character(line, ByteAt(byte));
+        let Character { value, size } = known_character(line, ByteAt(byte));
         n += span_in_set(value, Column(first + n));
         byte += size;
     }

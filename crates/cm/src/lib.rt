@@ -2,24 +2,30 @@
 // checks up to 8; the sizes; 9 and 10; and, from the sizes, drawn size (2), 11, 12 and the drawing.
 #![tactic(auto)]
 
-pub mod arrays;
+pub mod board;
 pub mod columns;
 pub mod draw;
+pub mod lettering;
 pub mod lines;
 pub mod output;
+pub mod plan;
 pub mod split;
 
 ghost use Rattle.std.specs.Prelude.{◌≤◌, ◌≡◌, length};
 ghost use Rattle.grid.specs.LayoutCall.{slot_space, rect_space};
 ghost use Rattle.representation.specs.TableIn.{table_in, Tabled};
-ghost use Rattle.drawing.specs.RedrawCall.{redraw_spaces, redraw_space_short, table_given, table_lent, drawing_lent, redraw_answer, redraw_afterwards};
+ghost use Rattle.representation.specs.Lent.{sizes_of, arrays_of};
+ghost use Rattle.drawing.specs.RedrawCall.{redraw_spaces, redraw_space_short, drawing_lent, redraw_answer, redraw_afterwards};
 ghost use Rattle.cm.specs.Late.{answer_of, canvas_sizes, canvas_arrays};
 
-use crate::draw::{RedrawAnswer, draw_sized};
+use crate::draw::{DrawingSizes, draw_sized};
+use crate::lettering::Lettering;
+use crate::plan::Plan;
 use alignment::{corners_on, count_sections, misaligned};
-use reading::checks::Place;
+use refusals::Refusal;
+use representation::lent::Table;
 use sizes::measure_table;
-use table_checks::{Checked, check_table};
+use table_checks::check_table;
 use text::Column;
 
 const MAX_TABLE_LINES: usize = 16384;
@@ -31,37 +37,33 @@ const SLOT_SPACE: usize = 16384;
 const RECT_SPACE: usize = 4096;
 
 // 13, of the working space.
-fn space_short(
-    starts: usize,
-    ends: usize,
-    firsts: usize,
-    heights: usize,
-    wides: usize,
-    rects: usize,
-    canvas: usize,
+pub fn space_short(
+    starts: &[u16],
+    ends: &[u16],
+    firsts: &[u16],
+    heights: &[u16],
+    wides: &[u16],
+    rects: &[u8],
+    canvas: &[u16],
 ) -> bool
-    ensures { result ≡ redraw_space_short
-        (record { starts = starts; ends = ends; firsts = firsts; heights = heights; wides = wides; rects = rects; canvas = canvas }) }
+    ensures { let space = redraw_spaces starts.now ends.now firsts.now heights.now wides.now
+        rects.now canvas.now in
+        result ≡ redraw_space_short space }
 {
-    (starts < MAX_TABLE_LINES)
-        | (ends < MAX_TABLE_LINES)
-        | (firsts < MAX_CELLS)
-        | (heights < MAX_CELLS)
-        | (wides < MAX_CELLS)
-        | (rects < RECT_SPACE)
-        | (canvas < SLOT_SPACE)
+    // Seven tests in one value: of `||` each would be a case of the proof.
+    (starts.len() < MAX_TABLE_LINES)
+        | (ends.len() < MAX_TABLE_LINES)
+        | (firsts.len() < MAX_CELLS)
+        | (heights.len() < MAX_CELLS)
+        | (wides.len() < MAX_CELLS)
+        | (rects.len() < RECT_SPACE)
+        | (canvas.len() < SLOT_SPACE)
 }
 
 // A table that passed the checks up to 8: its sizes, 9, 10, and the drawing.
 fn draw_table(
     origin: Column,
-    columns: usize,
-    n: usize,
-    cols: &[u16],
-    sections: &[u8],
-    cells: &[u16],
-    lengths: &[u16],
-    text: &[u8],
+    table: Table<'_>,
     starts: &mut [u16],
     ends: &mut [u16],
     firsts: &mut [u16],
@@ -72,15 +74,27 @@ fn draw_table(
     out_lengths: &mut [u16],
     out_columns: &mut [u16],
     out_text: &mut [u8],
-) -> RedrawAnswer
-    requires tabled { Tabled origin.0 columns n cols.now sections.now cells.now lengths.now text.now }
-    requires in_bounds { (16384 ≤ length starts.old) × (16384 ≤ length ends.old) × (1024 ≤ length firsts.old) × (1024 ≤ length heights.old) }
-    requires in_bounds_2 { (1024 ≤ length wides.old) × (rect_space ≤ length rects.old) × (slot_space ≤ length canvas.old) }
-    ensures { let t = table_in columns n cols.now sections.now cells.now lengths.now text.now in
+) -> Result<DrawingSizes, Refusal>
+    requires tabled { let t = arrays_of table in
+        Tabled origin.0 table.columns table.cells t.columns t.sections t.cells t.lengths t.text }
+    requires text_room { (16384 ≤ length starts.old) × (16384 ≤ length ends.old) × (1024 ≤ length firsts.old) × (1024 ≤ length heights.old) }
+    requires canvas_room { (1024 ≤ length wides.old) × (rect_space ≤ length rects.old) × (slot_space ≤ length canvas.old) }
+    ensures { let lent = arrays_of table.entry in
+        let t = table_in table.entry.columns table.entry.cells lent.columns lent.sections lent.cells lent.lengths lent.text in
         let before = drawing_lent out_lengths.old out_columns.old out_text.old in
         let after = drawing_lent out_lengths.new out_columns.new out_text.new in
         (answer_of result ≡ canvas_sizes t origin.0 before) × (after ≡ canvas_arrays t origin.0 before) }
 {
+    let Table {
+        columns,
+        cells: n,
+        column_entries: cols,
+        sections,
+        cell_entries: cells,
+        lengths,
+        text,
+        ..
+    } = table;
     let offsets = measure_table(
         columns, n, cols, sections, cells, lengths, text, starts, ends, firsts, heights, wides,
     );
@@ -88,38 +102,38 @@ fn draw_table(
     let heads = counts.heads;
     let foots = counts.foots;
     if (foots != 0) & (heads == 0) {
-        return RedrawAnswer::Refused {
-            number: 9,
-            place: 0,
-        };
+        return Err(Refusal::FootWithoutHead);
     }
     let corners = corners_on(cells, n, heads);
-    if let Place::At(k) = misaligned(cols, columns, corners) {
-        return RedrawAnswer::Refused {
-            number: 10,
-            place: k,
-        };
+    if let Some(column) = misaligned(cols, columns, corners) {
+        return Err(Refusal::NoCorner { column });
     }
     let xs = offsets.xs;
     let ys = offsets.ys;
     let marks = corners.marks;
-    draw_sized(
-        origin,
-        columns,
-        sections.len(),
-        n,
-        heads,
-        foots,
-        cols,
-        cells,
+    let lettering = Lettering {
         text,
-        xs,
-        ys,
-        marks,
         starts,
         ends,
         firsts,
         heights,
+    };
+    let plan = Plan {
+        columns,
+        rows: sections.len(),
+        cells: n,
+        heads,
+        foots,
+        column_entries: cols,
+        cell_entries: cells,
+        xs,
+        ys,
+        marks,
+    };
+    draw_sized(
+        origin,
+        &plan,
+        lettering,
         rects,
         canvas,
         out_lengths,
@@ -132,16 +146,7 @@ fn draw_table(
 // heights and wides of 1,024, rects of 4,096, canvas of 16,384.
 pub fn redraw(
     origin: usize,
-    columns: usize,
-    rows: usize,
-    n: usize,
-    lines: usize,
-    bytes: usize,
-    cols: &[u16],
-    sections: &[u8],
-    cells: &[u16],
-    lengths: &[u16],
-    text: &[u8],
+    table: Table<'_>,
     starts: &mut [u16],
     ends: &mut [u16],
     firsts: &mut [u16],
@@ -152,52 +157,31 @@ pub fn redraw(
     out_lengths: &mut [u16],
     out_columns: &mut [u16],
     out_text: &mut [u8],
-) -> RedrawAnswer
+) -> Result<DrawingSizes, Refusal>
     ensures { let space = redraw_spaces starts.old ends.old firsts.old heights.old wides.old
         rects.old canvas.old in
-        let sizes = table_given columns rows n lines bytes in
-        let table = table_lent cols.now sections.now cells.now lengths.now text.now in
+        let sizes = sizes_of table.entry in
+        let lent = arrays_of table.entry in
         let before = drawing_lent out_lengths.old out_columns.old out_text.old in
         let after = drawing_lent out_lengths.new out_columns.new out_text.new in
-        (answer_of result ≡ redraw_answer space origin sizes table before) × (after ≡ redraw_afterwards space origin sizes table before) }
+        (answer_of result ≡ redraw_answer space origin sizes lent before) × (after ≡ redraw_afterwards space origin sizes lent before) }
 {
-    if space_short(
-        starts.len(),
-        ends.len(),
-        firsts.len(),
-        heights.len(),
-        wides.len(),
-        rects.len(),
-        canvas.len(),
-    ) {
-        return RedrawAnswer::Refused {
-            number: 13,
-            place: 0,
-        };
+    if space_short(starts, ends, firsts, heights, wides, rects, canvas) {
+        return Err(Refusal::Contradiction);
     }
-    match check_table(
-        origin, columns, rows, n, lines, bytes, cols, sections, cells, lengths, text,
-    ) {
-        Checked::Refused { number, place } => RedrawAnswer::Refused { number, place },
-        Checked::Fine => draw_table(
-            Column(origin),
-            columns,
-            n,
-            cols,
-            sections,
-            cells,
-            lengths,
-            text,
-            starts,
-            ends,
-            firsts,
-            heights,
-            wides,
-            rects,
-            canvas,
-            out_lengths,
-            out_columns,
-            out_text,
-        ),
-    }
+    check_table(origin, table)?;
+    draw_table(
+        Column(origin),
+        table,
+        starts,
+        ends,
+        firsts,
+        heights,
+        wides,
+        rects,
+        canvas,
+        out_lengths,
+        out_columns,
+        out_text,
+    )
 }

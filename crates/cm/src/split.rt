@@ -3,23 +3,26 @@
 ghost use Rattle.std.specs.Prelude.{◌+◌, ◌-◌, ◌*◌, ◌≤◌, ◌<◌, ◌≡◌, true, false, ◌&&◌, cond, List, length, eqb};
 ghost use Rattle.text.specs.Columns.{columns_from};
 ghost use Rattle.text.specs.Utf8.{char_indices, well_formed};
-ghost use Rattle.grid.specs.Values.{Rect};
 ghost use Rattle.grid.specs.Slots.{grid_of, vertical, glyph_of};
 ghost use Rattle.grid.specs.LayoutCall.{slot_space};
 ghost use Rattle.reading.specs.Checks.{place_of};
 ghost use Rattle.drawing.specs.Plain.{Box, Canvas, canvas_lines};
 ghost use Rattle.drawing.specs.Redraw.{splits as splits_in, split_cell};
 ghost use Rattle.representation.specs.Arrays.{rect_in};
-ghost use Rattle.cm.specs.Board.{board, lines_at, Lettered, CanvasReady};
+ghost use Rattle.representation.specs.Lent.{rect_of};
+ghost use Rattle.cm.specs.Board.{lines_at};
+ghost use Rattle.cm.specs.Bears.{LettersOf, Bears, Ready};
 ghost use Rattle.cm.specs.Hits.{Hit, Hittable, HitLines, split_column};
 
-use crate::arrays::{edge, entry};
-use crate::lines::cell_line;
+use crate::board::Board;
+use crate::lettering::Lettering;
 use characters::known::span_in_set;
-use reading::checks::Place;
 use representation::STRIDE;
-use text::{ByteAt, Column};
-use utf8::known::{Known, known_character};
+use representation::rect::Rect;
+use text::{ByteAt, Character, Column};
+use utf8::known::known_character;
+
+const PLUS: u16 = 0x2b;
 
 // For each column, how many lines from the first on show `|` or `+` there.
 #[derive(Clone, Copy)]
@@ -51,8 +54,9 @@ fn hit_line(line: &[u8], column: Column, from: Column, i: u8, hits: Hits) -> Hit
     let first = column.0;
     let mut byte = 0;
     let mut n = 0;
+    // A while: characters have different sizes.
     while byte < line.len() {
-        let Known { value, size } = known_character(line, ByteAt(byte));
+        let Character { value, size } = known_character(line, ByteAt(byte));
         lines[from.0 + n] = counted(is_vertical(value), lines[from.0 + n], i);
         n += span_in_set(value, Column(first + n));
         byte += size;
@@ -61,140 +65,67 @@ fn hit_line(line: &[u8], column: Column, from: Column, i: u8, hits: Hits) -> Hit
 }
 
 // The first `count` lines of cell k, whose text starts at column `from` of the canvas.
-fn hit_lines(
-    column: Column,
-    from: Column,
-    count: usize,
-    text: &[u8],
-    starts: &[u16],
-    ends: &[u16],
-    firsts: &[u16],
-    heights: &[u16],
-    k: usize,
-) -> Hits
-    requires column_bound { (column.0 ≤ 1024) × (count < 128) }
-    requires lettered { (bs : List Box) × Lettered bs text.now starts.now ends.now firsts.now heights.now × (k < length bs)
-        × Hittable column.0 from.0 (lines_at bs k) }
-    ensures { (bs : List Box) → Lettered bs text.now starts.now ends.now firsts.now heights.now
-        → k < length bs → HitLines column.0 (lines_at bs k) from.0 count result.lines }
+fn hit_lines(column: Column, from: Column, count: usize, lettering: Lettering<'_>, k: usize) -> Hits
+    requires near { (column.0 ≤ 1024) × (count < 128) }
+    requires lettered { (bs : List Box) × LettersOf lettering bs × (k < length bs) × Hittable column.0 from.0 (lines_at bs k) }
+    ensures { (bs : List Box) → LettersOf lettering.entry bs → k < length bs → HitLines column.0 (lines_at bs k) from.0 count result.lines }
 {
     let mut hits = Hits { lines: [0; 128] };
-    let mut i = 0;
-    while i < count {
-        let line = cell_line(text, starts, ends, firsts, heights, k, i);
+    for i in 0..count {
+        let line = lettering.line(k, i);
         hits = hit_line(line, column, from, i as u8, hits);
-        i += 1;
     }
     hits
 }
 
 // Is there a column inside with a `+` above and below that has shown this many lines?
-fn split_column(
-    canvas: &[u16],
-    top: usize,
-    left: usize,
-    bottom: usize,
-    right: usize,
-    lines: usize,
-    hits: Hits,
-) -> bool
-    requires { (top < 128) × (bottom < 128) × (left < right) × (right < 128)
-        × (slot_space ≤ length canvas.now) × (length hits.lines ≡ 128) }
-    ensures { let rect : Rect = record { top = top; left = left; bottom = bottom; right = right } in
-        result ≡ split_column canvas.now rect lines hits.lines }
+fn split_column(canvas: &[u16], rect: Rect, lines: usize, hits: Hits) -> bool
+    requires low { (rect.top < 128) × (rect.bottom < 128) × (rect.left.0 < rect.right.0) × (rect.right.0 < 128) }
+    requires room { (slot_space ≤ length canvas.now) × (length hits.lines ≡ 128) }
+    ensures { result ≡ split_column canvas.now (rect_of rect) lines hits.lines }
 {
-    let shown = hits.lines;
-    let mut x = left + 1;
-    while x < right {
-        let above = canvas[top * STRIDE + x];
-        let below = canvas[bottom * STRIDE + x];
-        if (above == 0x2b) & (below == 0x2b) & (shown[x] as usize == lines) {
+    for x in rect.left.0 + 1..rect.right.0 {
+        let above = canvas[rect.top * STRIDE + x];
+        let below = canvas[rect.bottom * STRIDE + x];
+        if (above == PLUS) & (below == PLUS) & (hits.lines[x] as usize == lines) {
             return true;
         }
-        x += 1;
     }
     false
 }
 
 // Would cell k be read as two? Its lines are looked at only where a `+` above and one below meet.
-fn splits(
-    origin: Column,
-    width: Column,
-    n: usize,
-    rects: &[u8],
-    canvas: &[u16],
-    text: &[u8],
-    starts: &[u16],
-    ends: &[u16],
-    firsts: &[u16],
-    heights: &[u16],
-    k: usize,
-) -> bool
-    requires { let b = board rects.now text.now starts.now ends.now firsts.now heights.now in
-        ((v : Canvas) × CanvasReady v n width.0 b canvas.now × (k < n) × (origin.0 ≤ 255)) }
-    ensures { let b = board rects.now text.now starts.now ends.now firsts.now heights.now in
-        ((v : Canvas) → CanvasReady v n width.0 b canvas.now
-        → result ≡ splits_in (grid_of (canvas_lines origin.0 v)) (rect_in rects.now k)) }
+fn splits(board: &Board<'_>, k: usize) -> bool
+    requires ready { Ready board.now }
+    requires cell { k < board.now.cells }
+    ensures { (v : Canvas) → Bears board.now v
+        → result ≡ splits_in (grid_of (canvas_lines board.now.origin.0 v)) (rect_in board.now.rects.now k) }
 {
-    let top = edge(rects, 4 * k);
-    let left = edge(rects, 4 * k + 1);
-    let bottom = edge(rects, 4 * k + 2);
-    let right = edge(rects, 4 * k + 3);
-    let lines = bottom - top - 1;
-    if entry(heights, k) < lines {
+    let rect = Rect::at(board.rects, k);
+    let lettering = board.lettering;
+    let lines = rect.bottom - rect.top - 1;
+    if (lettering.heights[k] as usize) < lines {
         return false;
     }
-    if !split_column(
-        canvas,
-        top,
-        left,
-        bottom,
-        right,
-        0,
-        Hits { lines: [0; 128] },
-    ) {
+    let none = Hits { lines: [0; 128] };
+    if !split_column(board.canvas, rect, 0, none) {
         return false;
     }
-    let hits = hit_lines(
-        Column(origin.0 + left + 2),
-        Column(left + 2),
-        lines,
-        text,
-        starts,
-        ends,
-        firsts,
-        heights,
-        k,
-    );
-    split_column(canvas, top, left, bottom, right, lines, hits)
+    let from = Column(rect.left.0 + 2);
+    let column = Column(board.origin.0 + rect.left.0 + 2);
+    let hits = hit_lines(column, from, lines, lettering, k);
+    split_column(board.canvas, rect, lines, hits)
 }
 
 // The first cell that would be read as two.
-pub fn first_split(
-    origin: Column,
-    width: Column,
-    n: usize,
-    rects: &[u8],
-    canvas: &[u16],
-    text: &[u8],
-    starts: &[u16],
-    ends: &[u16],
-    firsts: &[u16],
-    heights: &[u16],
-) -> Place
-    requires { let b = board rects.now text.now starts.now ends.now firsts.now heights.now in
-        ((v : Canvas) × CanvasReady v n width.0 b canvas.now × (origin.0 ≤ 255)) }
-    ensures { let b = board rects.now text.now starts.now ends.now firsts.now heights.now in
-        ((v : Canvas) → CanvasReady v n width.0 b canvas.now → place_of result ≡ split_cell v (grid_of (canvas_lines origin.0 v))) }
+pub(crate) fn first_split(board: &Board<'_>) -> Option<usize>
+    requires { Ready board.now }
+    ensures { (v : Canvas) → Bears board.now v → place_of result ≡ split_cell v (grid_of (canvas_lines board.now.origin.0 v)) }
 {
-    let mut k = 0;
-    while k < n {
-        if splits(
-            origin, width, n, rects, canvas, text, starts, ends, firsts, heights, k,
-        ) {
-            return Place::At(k);
+    for k in 0..board.cells {
+        if splits(board, k) {
+            return Some(k);
         }
-        k += 1;
     }
-    Place::Nowhere
+    None
 }

@@ -1,4 +1,6 @@
 -- What a slot inside a box shows is what the box's text shows there (`vertical-text`).
+use Rattle.std.specs.Prelude.{Option, None, Some}
+use Rattle.text.specs.declared.Character.{Character}
 use Prim.Native.Nat.{ℕ, zero, suc, ◌+◌, ◌-◌, ◌≤◌, ◌<◌}
 use mathlib.Core.Path.{◌≡◌, refl, sym, ap, ◌∙◌}
 use mathlib.Core.Bool.{Bool, false}
@@ -8,8 +10,6 @@ use native.Mathlib.Omega.{arith}
 use lib.ListN.{length, get_or, replicate, length-map, get_or-append, get_or-eq_default}
 use Rattle.seq.proofs.Tests.{le-or-lt}
 use Rattle.seq.proofs.Positions.{get_d_map, get_d_past}
-use Rattle.text.specs.declared.Decoded.{Decoded}
-use Rattle.text.specs.declared.Decoded.TheVariants.{Character, Refused}
 use Rattle.text.specs.Characters.{space, span}
 use Rattle.text.specs.Utf8.{character, chars_step, chars_from, char_indices}
 use Rattle.text.specs.Lines.{no_text}
@@ -36,15 +36,15 @@ slots-glyphs rule (b ∷ s) column at place zero = go (character (b ∷ s)) (λ 
   same zero g p q = refl
   same (suc k) g p q = ap (λ (l : List Glyph). g ∷ l) (same k g p q)
 
-  go : (d : Decoded) → ((c k : ℕ) → glyphs (slots_from rule c (chars_from (at + 1) k s)) ≡ glyphs (slots_from rule c (chars_from (place + 1) k s)))
+  go : (d : Option Character) → ((c k : ℕ) → glyphs (slots_from rule c (chars_from (at + 1) k s)) ≡ glyphs (slots_from rule c (chars_from (place + 1) k s)))
       → glyphs (slots_from rule column (chars_step at d (λ k. chars_from (at + 1) k s))) ≡ glyphs (slots_from rule column (chars_step place d (λ k. chars_from (place + 1) k s)))
-  go (Character value size) later =
-      let k = span column value in
-      map-append (λ (s : Slot). s.glyph) (replicate k (record { glyph = glyph_of rule value; byte = at })) _
-      ∙ ap (λ (l : List Glyph). l ++ glyphs (slots_from rule (column + k) (chars_from (at + 1) (size - 1) s))) (same k (glyph_of rule value) at place)
-      ∙ ap (λ (l : List Glyph). glyphs (replicate k (record { glyph = glyph_of rule value; byte = place })) ++ l) (later (column + k) (size - 1))
-      ∙ sym (map-append (λ (s : Slot). s.glyph) (replicate k (record { glyph = glyph_of rule value; byte = place })) _)
-  go Refused later = refl
+  go (Some found) later =
+      let k = span column found.value in
+      map-append (λ (s : Slot). s.glyph) (replicate k (record { glyph = glyph_of rule found.value; byte = at })) _
+      ∙ ap (λ (l : List Glyph). l ++ glyphs (slots_from rule (column + k) (chars_from (at + 1) (found.size - 1) s))) (same k (glyph_of rule found.value) at place)
+      ∙ ap (λ (l : List Glyph). glyphs (replicate k (record { glyph = glyph_of rule found.value; byte = place })) ++ l) (later (column + k) (found.size - 1))
+      ∙ sym (map-append (λ (s : Slot). s.glyph) (replicate k (record { glyph = glyph_of rule found.value; byte = place })) _)
+  go None later = refl
 
 module _ {v : Canvas} (L : Lined v) (o : ℕ) {b : Box} (m : Memᴰ b v.boxes) (y : ℕ) (u : b.frame.top < y) (w : y < b.frame.bottom) where
   abbrev g : Grid

@@ -1,7 +1,8 @@
 -- Document 01, "Drawing": the widths and heights.
+use Rattle.std.specs.Prelude.{unwrap_or}
 use Rattle.std.specs.Prelude.{ℕ, ◌+◌, ◌-◌, max, cond, List, [], ◌∷◌, map, length, get_or, take, drop, set, eqb}
 use Rattle.seq.specs.Lists.{sum, largest}
-use Rattle.text.specs.Characters.{tab, width_of, columns_of}
+use Rattle.text.specs.Characters.{tab, width_of}
 use Rattle.text.specs.Utf8.{CharIndex, char_indices}
 use Rattle.grid.specs.Values.{GridTableColumn, TableCell, Table}
 use Rattle.grid.specs.Same.{drawn_lines}
@@ -10,7 +11,7 @@ use Rattle.grid.specs.declared.TableAlignment.TheVariants.{None, Left, Right, Ce
 
 -- "(a tab counted as 4)"
 abbrev pub measure : CharIndex → ℕ
-measure c = cond (eqb c.value tab) 4 (columns_of (width_of c.value))
+measure c = cond (eqb c.value tab) 4 (unwrap_or (width_of c.value) 0)
 
 unfoldable pub widest : List (List ℕ) → ℕ
 widest lines = largest (map (λ line. sum (map measure (char_indices line))) lines)

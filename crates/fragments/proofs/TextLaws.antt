@@ -2,79 +2,72 @@
 use Prim.Native.Nat.{ℕ, ◌+◌, ◌-◌, ◌≤◌}
 use mathlib.Core.Path.{◌≡◌, refl, sym, ap, ◌∙◌}
 use mathlib.Core.Bool.{false}
-use mathlib.Core.List.{List, []}
+use mathlib.Core.List.{[]}
 use native.Mathlib.Omega.{arith}
 use lib.ListN.{length, take, drop}
-use Rattle.text.specs.declared.ByteAt.{ByteAt}
-use Rattle.text.specs.declared.Column.{Column}
 use Rattle.grid.specs.Answer.{Answer, accept, refuse, and_then, afterwards}
-use Rattle.grid.specs.Values.{Fragment}
+use Rattle.grid.specs.Values.{Line, Fragment, Range}
 use Rattle.grid.specs.Cut.{cut}
 use Rattle.grid.specs.CutCall.{bad_range, cut_answer, CutNumbers, cut_numbers, cut_numbers_answer, cut_text, cut_start}
 use Rattle.grid.proofs.CutLaws.{range-forward, range_inside, accepted-cut, cut-byte, cut-part, cut-ends}
-use Rattle.fragments.specs.declared.Cut.{Cut}
-use Rattle.fragments.specs.declared.Cut.TheVariants.{Accepted, Refused}
-use Rattle.fragments.specs.Part.{line_of, range}
-use Rattle.fragments.specs.Call.{answer_of}
 
-module _ (text : List ℕ) (column : Column) (line : ℕ) (table_byte start end : ByteAt) (left : Column) (a : Cut) (told : answer_of a ≡ cut_numbers_answer (line_of text column) line table_byte.0 (range start end) left.0) where
+module _ (given : Line) (line table_byte : ℕ) (r : Range) (left : ℕ) where
   abbrev answer : Answer Fragment
-  answer = cut_answer (line_of text column) line table_byte.0 (range start end) left.0
+  answer = cut_answer given line table_byte r left
 
   abbrev fragment : Fragment
-  fragment = cut (line_of text column) line table_byte.0 (range start end) left.0
+  fragment = cut given line table_byte r left
 
-  pub refused-empty : (number place : ℕ) → a ≡ Refused number place → [] ≡ cut_text (line_of text column) line table_byte.0 (range start end) left.0
-  unfolding cut_text cut_numbers_answer
-  refused-empty number place is = go answer (rw is at told) where
-    go : (x : Answer Fragment) → refuse number place ≡ and_then x (λ f. accept (cut_numbers table_byte.0 f)) → [] ≡ afterwards x (λ (f : Fragment). f.text) []
-    go (accept f) e = let z : ◌≡◌ {A = ℕ} 0 1 = cc in absurd (omega arith)
-    go (refuse n p) e = refl
+  module _ (number place : ℕ) (told : refuse number place ≡ cut_numbers_answer given line table_byte r left) where
+    pub refused-empty : [] ≡ cut_text given line table_byte r left
+    unfolding cut_text cut_numbers_answer
+    refused-empty = go answer told where
+      go : (x : Answer Fragment) → refuse number place ≡ and_then x (λ f. accept (cut_numbers table_byte f)) → [] ≡ afterwards x (λ (f : Fragment). f.text) []
+      go (accept f) e = cc
+      go (refuse n p) e = refl
 
-  -- the part handed back starts at an offset o of memory
-  pub refused-placed : (number place : ℕ) → a ≡ Refused number place → (o : ℕ) → 0 + o ≡ o + cut_start (line_of text column) line table_byte.0 (range start end) left.0
-  unfolding cut_start
-  refused-placed number place is o =
-      let none : 0 ≡ cut_start (line_of text column) line table_byte.0 (range start end) left.0 = ap (λ (x : Answer CutNumbers). afterwards x (λ (c : CutNumbers). c.start) 0) (rw is at told) in
-      omega (arith, none)
+    -- the part handed back starts at an offset o of memory
+    pub refused-placed : (o : ℕ) → 0 + o ≡ o + cut_start given line table_byte r left
+    unfolding cut_start
+    refused-placed o =
+        let none : 0 ≡ cut_start given line table_byte r left = ap (λ (x : Answer CutNumbers). afterwards x (λ (c : CutNumbers). c.start) 0) told in
+        omega (arith, none)
 
-  module _ (first last : ByteAt) (number : ℕ) (byte : ByteAt) (at : Column) (is : a ≡ Accepted first last number byte at) where
+  module _ (c : CutNumbers) (told : accept c ≡ cut_numbers_answer given line table_byte r left) where
     -- what the answer says of the fragment
     record Told : Type 0 where
-      fair : bad_range (range start end) text ≡ false
+      fair : bad_range r given.text ≡ false
       answered : answer ≡ accept fragment
-      starts : first.0 ≡ fragment.byte - table_byte.0
-      stops : last.0 ≡ fragment.byte - table_byte.0 + length fragment.text
+      starts : c.start ≡ fragment.byte - table_byte
+      stops : c.end ≡ fragment.byte - table_byte + length fragment.text
 
     numbers : Told
     unfolding cut_numbers_answer cut_numbers
-    numbers = go answer refl (rw is at told) where
-      go : (x : Answer Fragment) → answer ≡ x
-          → accept (record { start = first.0; end = last.0; line = number; byte = byte.0; column = at.0 }) ≡ and_then x (λ f. accept (cut_numbers table_byte.0 f))
-          → Told
+    numbers = go answer refl told where
+      go : (x : Answer Fragment) → answer ≡ x → accept c ≡ and_then x (λ f. accept (cut_numbers table_byte f)) → Told
       go (accept f) e q =
-          let (fair, same) = accepted-cut (line_of text column) line table_byte.0 (range start end) left.0 f e in
-          let n : record { start = first.0; end = last.0; line = number; byte = byte.0; column = at.0 } ≡ cut_numbers table_byte.0 fragment = cc in
+          let (fair, same) = accepted-cut given line table_byte r left f e in
+          let n : c ≡ cut_numbers table_byte fragment = cc in
           record { fair = fair; answered = e ∙ ap accept same; starts = ap (λ (m : CutNumbers). m.start) n; stops = ap (λ (m : CutNumbers). m.end) n }
-      go (refuse n p) e q = let z : ◌≡◌ {A = ℕ} 0 1 = cc in absurd (omega arith)
+      go (refuse n p) e q = cc
 
-    pub part-forward : first.0 ≤ last.0
+    pub part-forward : c.start ≤ c.end
     part-forward = omega (arith, numbers.starts, numbers.stops)
 
-    pub part-inside : last.0 ≤ length text
+    pub part-inside : c.end ≤ length given.text
     part-inside =
         let fair = numbers.fair in
         omega
-        (arith, numbers.stops, range_inside (range start end) text fair, cut-byte (line_of text column) line table_byte.0 (range start end) left.0, cut-ends (line_of text column) line table_byte.0 (range start end) left.0 (range-forward (range start end) text fair))
+        (arith, numbers.stops, range_inside r given.text fair, cut-byte given line table_byte r left, cut-ends given line table_byte r left (range-forward r given.text fair))
 
-    pub part_cut : take (last.0 - first.0) (drop first.0 text) ≡ cut_text (line_of text column) line table_byte.0 (range start end) left.0
+    pub part_cut : take (c.end - c.start) (drop c.start given.text) ≡ cut_text given line table_byte r left
     unfolding cut_text
     part_cut =
-        let long : last.0 - first.0 ≡ length fragment.text = omega (arith, numbers.starts, numbers.stops) in
-        rw (numbers.answered, long, numbers.starts) (sym (cut-part (line_of text column) line table_byte.0 (range start end) left.0))
+        let long : c.end - c.start ≡ length fragment.text = omega (arith, numbers.starts, numbers.stops) in
+        rw (numbers.answered, long, numbers.starts) (sym (cut-part given line table_byte r left))
 
-    pub part_placed : (o : ℕ) → first.0 + o ≡ o + cut_start (line_of text column) line table_byte.0 (range start end) left.0
+    pub part_placed : (o : ℕ) → c.start + o ≡ o + cut_start given line table_byte r left
     unfolding cut_start
     part_placed o =
-        let same : first.0 ≡ cut_start (line_of text column) line table_byte.0 (range start end) left.0 = ap (λ (x : Answer CutNumbers). afterwards x (λ (c : CutNumbers). c.start) 0) (rw is at told) in
+        let same : c.start ≡ cut_start given line table_byte r left = ap (λ (x : Answer CutNumbers). afterwards x (λ (c : CutNumbers). c.start) 0) told in
         omega (arith, same)

@@ -1,11 +1,25 @@
--- The answers of the cutting calls, in the terms of the definitions. Document 01, "Cutting".
-use Rattle.grid.specs.Answer.{Answer, accept, refuse}
+-- The arguments and answers of the cutting calls, in the terms of the definitions. Document 01, "Cutting".
+use Rattle.std.specs.Prelude.{Result}
+use Rattle.grid.specs.Answer.{Answer}
+use Rattle.grid.specs.Values.{Line, Range}
 use Rattle.grid.specs.CutCall.{CutNumbers}
+use Rattle.refusals.specs.declared.Refusal.{Refusal}
+use Rattle.refusals.specs.Refusal.{answer_from}
+use Rattle.fragments.specs.declared.CellLine.{CellLine}
 use Rattle.fragments.specs.declared.Cut.{Cut}
-use Rattle.fragments.specs.declared.Cut.TheVariants.{Accepted, Refused}
+use Rattle.fragments.specs.Part.{line_of, range}
 
--- "What a call gives back": the number, place and values for each case of the answer
-abbrev pub answer_of : Cut → Answer CutNumbers
-answer_of (Accepted start end line byte column) =
-    accept (record { start = start.0; end = end.0; line = line; byte = byte.0; column = column.0 })
-answer_of (Refused number place) = refuse number place
+-- the line and the range given
+abbrev pub line_in : CellLine → Line
+line_in g = line_of g.text.now g.column
+
+abbrev pub range_in : CellLine → Range
+range_in g = range g.start g.end
+
+-- the values of an accepted cut
+abbrev pub numbers_of : Cut → CutNumbers
+numbers_of c = record { start = c.start.0; end = c.end.0; line = c.line; byte = c.byte.0; column = c.column.0 }
+
+-- "What a call gives back"
+abbrev pub answer_of : Result Cut Refusal → Answer CutNumbers
+answer_of r = answer_from numbers_of r

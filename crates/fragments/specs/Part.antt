@@ -6,7 +6,7 @@ use Rattle.grid.specs.Limits.{max_line_bytes, max_origin, max_left}
 use Rattle.grid.specs.Values.{Line, Range}
 use Rattle.grid.specs.Cut.{after_first, cut}
 use Rattle.grid.specs.CutCall.{cut_numbers}
-use Rattle.fragments.specs.declared.part.Start.{Start}
+use Rattle.fragments.specs.declared.part.Place.{Place}
 use Rattle.fragments.specs.declared.part.Piece.{Piece}
 
 -- the arguments as given
@@ -24,11 +24,11 @@ pub record Checked (text : List ℕ) (column : Column) (start end : ByteAt) (lef
   pub low_column : column.0 ≤ max_origin
   pub low_left : left.0 ≤ max_left
 
--- "A first space, or a first tab that takes one column, is dropped": where a trimmed text from byte and column on starts without it
-pub record Begins (text : List ℕ) (byte : ByteAt) (column : Column) (r : Start) : Type 0 where
-  pub inside : (byte.0 ≤ r.byte.0) × (r.byte.0 ≤ byte.0 + length text)
-  pub begun : (line table_byte : ℕ) → after_first text line (table_byte + byte.0) column.0
-      ≡ record { text = drop (r.byte.0 - byte.0) text; line = line; byte = table_byte + r.byte.0; column = r.column.0 }
+-- "A first space, or a first tab that takes one column, is dropped": where a trimmed text at this place starts without it
+pub record Begins (text : List ℕ) (at r : Place) : Type 0 where
+  pub inside : (at.byte.0 ≤ r.byte.0) × (r.byte.0 ≤ at.byte.0 + length text)
+  pub begun : (line table_byte : ℕ) → after_first text line (table_byte + at.byte.0) at.column.0
+      ≡ record { text = drop (r.byte.0 - at.byte.0) text; line = line; byte = table_byte + r.byte.0; column = r.column.0 }
 
 -- a cut line in numbers, whatever its line and table byte
 pub record Pieced (text : List ℕ) (column : Column) (start end : ByteAt) (left : Column) (r : Piece) : Type 0 where

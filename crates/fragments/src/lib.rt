@@ -6,10 +6,10 @@ pub mod view;
 
 ghost use Rattle.std.specs.Prelude.{◌+◌, ◌≡◌};
 ghost use Rattle.grid.specs.CutCall.{bad_range, cut_too_large, cut_numbers_answer, cut_text, cut_start};
-ghost use Rattle.fragments.specs.Part.{line_of, range};
-ghost use Rattle.fragments.specs.Call.{answer_of};
+ghost use Rattle.fragments.specs.Call.{answer_of, line_in, range_in};
 
 use crate::part::cut_part;
+use refusals::Refusal;
 use text::{ByteAt, Column};
 use utf8::continues_at;
 
@@ -21,110 +21,85 @@ const MAX_LEFT: usize = 127;
 
 const MAX_REGISTER: usize = 65535;
 
-// Where the cut text starts and ends in the line given, and its line, byte and column; or a refusal.
+// A line on which a cell has text: its text and column, its number and the table's byte where it
+// starts; and the part of it between the cell's borders, with the cell's left column.
 #[derive(Clone, Copy)]
-pub enum Cut {
-    Accepted {
-        start: ByteAt,
-        end: ByteAt,
-        line: usize,
-        byte: ByteAt,
-        column: Column,
-    },
-    Refused {
-        number: usize,
-        place: usize,
-    },
+pub struct CellLine<'a> {
+    pub text: &'a [u8],
+    pub column: Column,
+    pub line: usize,
+    pub table_byte: ByteAt,
+    pub start: ByteAt,
+    pub end: ByteAt,
+    pub left: Column,
 }
 
-// 13.
-fn bad_range(text: &[u8], start: ByteAt, end: ByteAt) -> bool
-    ensures { result ≡ bad_range (range start end) text.now }
-{
-    (end.0 < start.0) | (text.len() < end.0) | continues_at(text, start) | continues_at(text, end)
+// Where the cut text starts and ends in the line given, and its line, byte and column.
+#[derive(Clone, Copy, Debug, PartialEq, Eq)]
+pub struct Cut {
+    pub start: ByteAt,
+    pub end: ByteAt,
+    pub line: usize,
+    pub byte: ByteAt,
+    pub column: Column,
 }
 
-// 2.
-fn too_large(text: &[u8], column: Column, line: usize, table_byte: ByteAt, left: Column) -> bool
-    ensures { result ≡ cut_too_large (line_of text.now column) line table_byte.0 left.0 }
-{
-    (MAX_LINE_BYTES < text.len())
-        | (MAX_ORIGIN < column.0)
-        | (MAX_LEFT < left.0)
-        | (MAX_REGISTER < line)
-        | (MAX_REGISTER < table_byte.0)
+impl CellLine<'_> {
+    // 13.
+    #[tactic(auto, unfolding(grid::specs::CutCall::bad_range))]
+    fn bad_range(&self) -> bool
+        ensures { result ≡ bad_range (range_in self.now) self.now.text.now }
+    {
+        self.end.0 < self.start.0
+            || self.text.len() < self.end.0
+            || continues_at(self.text, self.start)
+            || continues_at(self.text, self.end)
+    }
+
+    // 2.
+    #[tactic(auto, unfolding(grid::specs::CutCall::cut_too_large))]
+    fn too_large(&self) -> bool
+        ensures { result ≡ cut_too_large (line_in self.now) self.now.line self.now.table_byte.0 self.now.left.0 }
+    {
+        MAX_LINE_BYTES < self.text.len()
+            || MAX_ORIGIN < self.column.0
+            || MAX_LEFT < self.left.0
+            || MAX_REGISTER < self.line
+            || MAX_REGISTER < self.table_byte.0
+    }
 }
 
 // One line of a cell, cut.
-pub fn cell_fragment(
-    text: &[u8],
-    column: Column,
-    line: usize,
-    table_byte: ByteAt,
-    start: ByteAt,
-    end: ByteAt,
-    left: Column,
-) -> Cut
-    ensures { answer_of result ≡ cut_numbers_answer (line_of text.now column) line table_byte.0 (range start end) left.0 }
+pub fn cell_fragment(given: CellLine<'_>) -> Result<Cut, Refusal>
+    ensures { let g = given.entry in
+        answer_of result ≡ cut_numbers_answer (line_in g) g.line g.table_byte.0 (range_in g) g.left.0 }
 {
-    let bad = bad_range(text, start, end);
-    let large = too_large(text, column, line, table_byte, left);
-    if bad {
-        return Cut::Refused {
-            number: 13,
-            place: 0,
-        };
+    if given.bad_range() {
+        return Err(Refusal::Contradiction);
     }
-    if large {
-        return Cut::Refused {
-            number: 2,
-            place: 0,
-        };
+    if given.too_large() {
+        return Err(Refusal::TooLarge);
     }
-    let piece = cut_part(text, column, start, end, left);
-    let first = piece.start;
-    let last = piece.end;
-    let at = piece.column;
-    Cut::Accepted {
-        start: first,
-        end: last,
-        line,
-        byte: ByteAt(table_byte.0 + first.0),
-        column: at,
-    }
+    let piece = cut_part(given.text, given.column, given.start, given.end, given.left);
+    Ok(Cut {
+        start: piece.start,
+        end: piece.end,
+        line: given.line,
+        byte: ByteAt(given.table_byte.0 + piece.start.0),
+        column: piece.column,
+    })
 }
 
 // The cut text as a part of the line given, from where the call above says; the empty part at the
 // line's start where it refuses.
-pub fn cell_text<'a>(
-    text: &'a [u8],
-    column: Column,
-    line: usize,
-    table_byte: ByteAt,
-    start: ByteAt,
-    end: ByteAt,
-    left: Column,
-) -> &'a [u8]
-    ensures { let given = line_of text.now column in
-        (result.ref_ptr.0 ≡ text.entry.ref_ptr.0)
-        × (result.ref_ptr.1 ≡ text.entry.ref_ptr.1 + cut_start given line table_byte.0 (range start end) left.0)
-        × (result.now ≡ cut_text given line table_byte.0 (range start end) left.0) }
+pub fn cell_text<'a>(given: CellLine<'a>) -> &'a [u8]
+    ensures { let g = given.entry in
+        (result.ref_ptr.0 ≡ g.text.ref_ptr.0)
+        × (result.ref_ptr.1 ≡ g.text.ref_ptr.1 + cut_start (line_in g) g.line g.table_byte.0 (range_in g) g.left.0)
+        × (result.now ≡ cut_text (line_in g) g.line g.table_byte.0 (range_in g) g.left.0) }
 {
-    match cell_fragment(text, column, line, table_byte, start, end, left) {
-        Cut::Accepted {
-            start: first,
-            end: last,
-            line: _,
-            byte: _,
-            column: _,
-        } => {
-            let from = first.0;
-            let to = last.0;
-            &text[from..to]
-        }
-        Cut::Refused {
-            number: _,
-            place: _,
-        } => &text[0..0],
+    match cell_fragment(given) {
+        Ok(cut) => &given.text[cut.start.0..cut.end.0],
+        Err(_) => &given.text[0..0],
     }
 }

@@ -6,9 +6,9 @@ use characters::tab_columns;
 use rule_lines::trim::trim_end;
 use text::{ByteAt, Column};
 
-// Where a text starts: its byte and its column.
+// Where a text stands: its byte and its column.
 #[derive(Clone, Copy)]
-pub struct Start {
+pub struct Place {
     pub byte: ByteAt,
     pub column: Column,
 }
@@ -21,34 +21,25 @@ pub struct Piece {
     pub column: Column,
 }
 
-// Where a trimmed text from this byte and column on starts without its first space or one-column
-// tab. A wider tab stays, and only the column moves.
-fn after_first(text: &[u8], byte: ByteAt, column: Column) -> Start
-    requires { (byte.0 < 65536) × (column.0 < 65536) }
-    ensures { Begins text.now byte column result }
+// Where a trimmed text at this place starts without its first space or one-column tab. A wider tab
+// stays, and only the column moves.
+fn after_first(text: &[u8], at: Place) -> Place
+    requires { (at.byte.0 < 65536) × (at.column.0 < 65536) }
+    ensures { Begins text.now at result }
 {
-    if text.len() == 0 {
-        return Start { byte, column };
+    let next = Place {
+        byte: ByteAt(at.byte.0 + 1),
+        column: Column(at.column.0 + 1),
+    };
+    match text {
+        [b' ', ..] => next,
+        [b'\t', ..] if tab_columns(at.column) == 1 => next,
+        [b'\t', ..] => Place {
+            byte: at.byte,
+            column: next.column,
+        },
+        _ => at,
     }
-    let first = text[0];
-    let past = ByteAt(byte.0 + 1);
-    let next = Column(column.0 + 1);
-    if first == b' ' {
-        return Start {
-            byte: past,
-            column: next,
-        };
-    }
-    if first != b'\t' {
-        return Start { byte, column };
-    }
-    if tab_columns(column) == 1 {
-        return Start {
-            byte: past,
-            column: next,
-        };
-    }
-    Start { byte, column: next }
 }
 
 // The part between the borders, trimmed at its end and then cut at its first byte.
@@ -56,16 +47,15 @@ pub fn cut_part(text: &[u8], column: Column, start: ByteAt, end: ByteAt, left: C
     requires { Checked text.now column start end left }
     ensures { Pieced text.now column start end left result }
 {
-    let from = start.0;
-    let to = end.0;
-    let part = &text[from..to];
-    let trimmed = trim_end(part);
-    let begun = after_first(trimmed, start, Column(column.0 + left.0 + 1));
-    let first = begun.byte;
-    let at = begun.column;
+    let trimmed = trim_end(&text[start.0..end.0]);
+    let first = Place {
+        byte: start,
+        column: Column(column.0 + left.0 + 1),
+    };
+    let begun = after_first(trimmed, first);
     Piece {
-        start: first,
-        end: ByteAt(from + trimmed.len()),
-        column: at,
+        start: begun.byte,
+        end: ByteAt(start.0 + trimmed.len()),
+        column: begun.column,
     }
 }

@@ -1,4 +1,6 @@
 -- A slot's byte lies in its line, and not before the byte of the slot left of it.
+use Rattle.std.specs.Prelude.{Option, None, Some}
+use Rattle.text.specs.declared.Character.{Character}
 use Prim.Native.Nat.{ℕ, zero, suc, ◌+◌, ◌-◌, ◌≤◌, ◌<◌}
 use mathlib.Core.Path.{◌≡◌, refl, sym, ap, ◌∙◌}
 use mathlib.Core.Bool.{Bool, true, false, ◌||◌, cond}
@@ -15,8 +17,6 @@ use Rattle.text.specs.Characters.{plus, span}
 use Rattle.text.specs.Computing.{characters}
 use Rattle.text.specs.Utf8.{CharIndex, character, chars_step, chars_from}
 use Rattle.text.specs.Trim.{trim_end}
-use Rattle.text.specs.declared.Decoded.{Decoded}
-use Rattle.text.specs.declared.Decoded.TheVariants.{Character, Refused}
 use Rattle.text.proofs.TrimLaws.{trim-prefix, trim-shorter}
 use Rattle.text.proofs.PartLaws.{low-character}
 use Rattle.grid.specs.Values.{Line, no_line}
@@ -28,12 +28,12 @@ unfolding chars_from
 char-byte at skip [] m = absurd (mathlib.Core.List.Memᴰ.not-nil m)
 char-byte at (suc skip) (b ∷ bs) m = let h = char-byte (at + 1) skip bs m in omega arith
 char-byte at zero (b ∷ bs) {c} m = go (character (b ∷ bs)) m (λ k n. char-byte (at + 1) k bs n) where
-  go : (d : Decoded) → Memᴰ c (chars_step at d (λ k. chars_from (at + 1) k bs)) → ((k : ℕ) → Memᴰ c (chars_from (at + 1) k bs) → c.byte < at + 1 + length bs)
+  go : (d : Option Character) → Memᴰ c (chars_step at d (λ k. chars_from (at + 1) k bs)) → ((k : ℕ) → Memᴰ c (chars_from (at + 1) k bs) → c.byte < at + 1 + length bs)
       → c.byte < at + suc (length bs)
-  go (Character v k) m later =
-      ⊎_elim (λ (e : c ≡ record { byte = at; value = v }). let h : c.byte ≡ at = ap (λ (c : CharIndex). c.byte) e in omega arith)
-      (λ (n : Memᴰ c (chars_from (at + 1) (k - 1) bs)). let h = later (k - 1) n in omega arith) (mathlib.Core.List.Memᴰ.cases_cons m)
-  go Refused m later = absurd (mathlib.Core.List.Memᴰ.not-nil m)
+  go (Some found) m later =
+      ⊎_elim (λ (e : c ≡ record { byte = at; value = found.value }). let h : c.byte ≡ at = ap (λ (c : CharIndex). c.byte) e in omega arith)
+      (λ (n : Memᴰ c (chars_from (at + 1) (found.size - 1) bs)). let h = later (found.size - 1) n in omega arith) (mathlib.Core.List.Memᴰ.cases_cons m)
+  go None m later = absurd (mathlib.Core.List.Memᴰ.not-nil m)
 
 -- the character that stands in a slot
 pub slot-character : (rule : Bool) (column : ℕ) (cs : List CharIndex) {s : Slot} → Memᴰ s (slots_from rule column cs)
@@ -142,13 +142,13 @@ unfolding slots_from chars_from
 slots-climb rule column at skip [] = tt
 slots-climb rule column at (suc skip) (b ∷ bs) = climbs-lower (omega arith) (slots_from rule column (chars_from (at + 1) skip bs)) (slots-climb rule column (at + 1) skip bs)
 slots-climb rule column at zero (b ∷ bs) = go (character (b ∷ bs)) (λ column k. slots-climb rule column (at + 1) k bs) where
-  go : (d : Decoded) → ((column k : ℕ) → Climbs (at + 1) (slots_from rule column (chars_from (at + 1) k bs)))
+  go : (d : Option Character) → ((column k : ℕ) → Climbs (at + 1) (slots_from rule column (chars_from (at + 1) k bs)))
       → Climbs at (slots_from rule column (chars_step at d (λ k. chars_from (at + 1) k bs)))
-  go (Character v k) later =
-      let rest = slots_from rule (column + span column v) (chars_from (at + 1) (k - 1) bs) in
-      climbs-run (span column v) at (record { glyph = glyph_of rule v; byte = at }) rest (border-column rule column v) (omega arith)
-      (later (column + span column v) (k - 1))
-  go Refused later = tt
+  go (Some found) later =
+      let rest = slots_from rule (column + span column found.value) (chars_from (at + 1) (found.size - 1) bs) in
+      climbs-run (span column found.value) at (record { glyph = glyph_of rule found.value; byte = at }) rest (border-column rule column found.value) (omega arith)
+      (later (column + span column found.value) (found.size - 1))
+  go None later = tt
 
 module _ (lines : List Line) (y x : ℕ) (low : y < length lines) (wide : suc x < length (get_or (grid_of lines).rows y [])) where
   climb : after (slot_at (grid_of lines) y x) ≤ byte_at (grid_of lines) y (suc x)

@@ -10,6 +10,7 @@ pub mod Read
 pub mod Same
 pub mod Cover
 pub mod Flat
+pub mod Codes
 pub mod LayoutCall
 pub mod Rebuilt
 pub mod CutCall

@@ -6,6 +6,7 @@ ghost use Rattle.replies.specs.CellReply.{cell_reply_of};
 
 use cell::cell;
 use replies::cells::{CellReply, cell_reply};
+use representation::lent::Drawing;
 
 // cell::cell.
 #[unsafe(no_mangle)]
@@ -29,7 +30,12 @@ pub extern "C" fn grid_cell(
         (result ≡ cell_reply_of (cell_answer space (length starts.old) given k out.old))
         × (out.new ≡ cell_afterwards space (length starts.old) given k out.old) }
 {
-    cell_reply(cell(
-        lines, bytes, lengths, columns, text, glyphs, offsets, down, right, rects, starts, k, out,
-    ))
+    let drawing = Drawing {
+        lines,
+        bytes,
+        lengths,
+        columns,
+        text,
+    };
+    cell_reply(cell(drawing, glyphs, offsets, down, right, rects, starts, k, out))
 }

@@ -4,7 +4,7 @@ ghost use Rattle.grid.specs.CutCall.{cut_numbers_answer};
 ghost use Rattle.replies.specs.CutReply.{cut_reply_of};
 ghost use Rattle.fragments.specs.View.{line_given, range_given};
 
-use fragments::cell_fragment;
+use fragments::{CellLine, cell_fragment};
 use replies::fragment::{CutReply, cut_reply};
 use text::{ByteAt, Column};
 
@@ -21,13 +21,13 @@ pub extern "C" fn grid_cell_fragment(
 ) -> CutReply
     ensures { result ≡ cut_reply_of (cut_numbers_answer (line_given text.now column) line table_byte (range_given start end) left) }
 {
-    cut_reply(cell_fragment(
+    cut_reply(cell_fragment(CellLine {
         text,
-        Column(column),
+        column: Column(column),
         line,
-        ByteAt(table_byte),
-        ByteAt(start),
-        ByteAt(end),
-        Column(left),
-    ))
+        table_byte: ByteAt(table_byte),
+        start: ByteAt(start),
+        end: ByteAt(end),
+        left: Column(left),
+    }))
 }

@@ -20,6 +20,7 @@ ghost use Rattle.replies.specs.LayoutReply.{layout_reply_of};
 
 use layout::layout;
 use replies::layouts::{LayoutReply, layout_reply};
+use representation::lent::Drawing;
 
 // layout::layout.
 #[unsafe(no_mangle)]
@@ -46,8 +47,14 @@ pub extern "C" fn grid_layout(
         (result ≡ layout_reply_of (layout_answer space given before))
         × (after ≡ layout_afterwards space given before) }
 {
+    let drawing = Drawing {
+        lines,
+        bytes,
+        lengths,
+        columns,
+        text,
+    };
     layout_reply(layout(
-        lines, bytes, lengths, columns, text, glyphs, offsets, down, right, rects, cols, rows,
-        cells, ranges,
+        drawing, glyphs, offsets, down, right, rects, cols, rows, cells, ranges,
     ))
 }

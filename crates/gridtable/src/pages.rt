@@ -5,9 +5,11 @@ ghost use Rattle.html.specs.PageCall.{page_answer, page_afterwards};
 ghost use Rattle.html_page.specs.Call.{sizes, arrays};
 ghost use Rattle.replies.specs.PageReply.{page_reply_of, share_reply_of};
 
+use html_page::lent::PageTable;
 use html_page::page;
 use html_page::share::share_of;
 use replies::pages::{PageReply, ShareReply, page_reply, share_reply};
+use table_checks::shape::Shape;
 
 // html_page::page.
 #[unsafe(no_mangle)]
@@ -27,18 +29,19 @@ pub extern "C" fn grid_page(
         let t = arrays cols.now sections.now cell_numbers.now inner.now in
         (result ≡ page_reply_of (page_answer widths s t out.old)) × (out.new ≡ page_afterwards widths s t out.old) }
 {
-    page_reply(page(
-        widths,
-        columns,
-        rows,
-        cells,
+    let table = PageTable {
+        shape: Shape {
+            columns,
+            rows,
+            cells,
+            column_entries: cols,
+            sections,
+            cell_entries: cell_numbers,
+        },
         bytes,
-        cols,
-        sections,
-        cell_numbers,
         inner,
-        out,
-    ))
+    };
+    page_reply(page(widths, table, out))
 }
 
 // html_page::share::share_of.

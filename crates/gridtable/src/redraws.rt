@@ -5,6 +5,7 @@ ghost use Rattle.replies.specs.RedrawReply.{redraw_reply_of};
 
 use cm::redraw;
 use replies::redraws::{RedrawReply, redraw_reply};
+use representation::lent::Table;
 
 // cm::redraw.
 #[unsafe(no_mangle)]
@@ -40,18 +41,21 @@ pub extern "C" fn grid_redraw(
         (result ≡ redraw_reply_of (redraw_answer space origin sizes table before))
         × (after ≡ redraw_afterwards space origin sizes table before) }
 {
-    redraw_reply(redraw(
-        origin,
+    let table = Table {
         columns,
         rows,
         cells,
         lines,
         bytes,
-        cols,
+        column_entries: cols,
         sections,
-        cell_numbers,
+        cell_entries: cell_numbers,
         lengths,
         text,
+    };
+    redraw_reply(redraw(
+        origin,
+        table,
         starts,
         ends,
         firsts,

@@ -4,7 +4,7 @@ ghost use Rattle.sourcepos.specs.LineEndCalls.{register, add_answer, add_afterwa
 ghost use Rattle.replies.specs.LineEndReply.{add_reply_of, find_reply_of, remap_reply_of};
 ghost use Rattle.gridtable.specs.Given.{end_given};
 
-use line_ends::{add, find, remap};
+use line_ends::{Register, add, find, remap};
 use replies::registers::{AddReply, FindReply, RemapReply, add_reply, find_reply, remap_reply};
 use sourcepos::CellLineEnd;
 
@@ -40,7 +40,13 @@ pub extern "C" fn grid_find_line_end(
     ensures { let given = register count lines.now starts.now eols.now in
         result ≡ find_reply_of (find_answer given line column) }
 {
-    find_reply(find(count, lines, starts, eols, line, column))
+    let register = Register {
+        count,
+        lines,
+        starts,
+        eols,
+    };
+    find_reply(find(register, line, column))
 }
 
 // line_ends::remap.

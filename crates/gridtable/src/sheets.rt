@@ -8,6 +8,7 @@ ghost use Rattle.replies.specs.SheetReply.{sheet_reply_of};
 
 use redrawing::redraw_sheet;
 use replies::sheets::{SheetReply, sheet_reply};
+use representation::lent::Drawing;
 
 // redrawing::redraw_sheet.
 #[unsafe(no_mangle)]
@@ -53,13 +54,16 @@ pub extern "C" fn grid_redraw_sheet(
         (result ≡ sheet_reply_of (sheet_answer space more between work given origin before))
         × (after ≡ sheet_afterwards space more between work given origin before) }
 {
-    sheet_reply(redraw_sheet(
-        origin,
+    let given = Drawing {
         lines,
         bytes,
         lengths,
         columns,
         text,
+    };
+    sheet_reply(redraw_sheet(
+        origin,
+        given,
         glyphs,
         offsets,
         down,

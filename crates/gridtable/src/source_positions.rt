@@ -9,6 +9,7 @@ use positions::{cell_position, positions};
 use replies::source_positions::{
     CellPositionReply, PositionsReply, cell_position_reply, positions_reply,
 };
+use representation::lent::Drawing;
 
 // positions::positions.
 #[unsafe(no_mangle)]
@@ -37,12 +38,15 @@ pub extern "C" fn grid_positions(
         (result ≡ positions_reply_of (positions_answer space (length starts.old) lines before))
         × (after ≡ positions_afterwards space (length starts.old) lines before) }
 {
-    positions_reply(positions(
+    let drawing = Drawing {
         lines,
         bytes,
         lengths,
         columns,
         text,
+    };
+    positions_reply(positions(
+        drawing,
         numbers,
         table_bytes,
         glyphs,
@@ -79,12 +83,15 @@ pub extern "C" fn grid_cell_position(
         let lines = placed given numbers.now table_bytes.now in
         result ≡ cell_position_reply_of (cell_position_answer space (length starts.old) lines k) }
 {
-    cell_position_reply(cell_position(
+    let drawing = Drawing {
         lines,
         bytes,
         lengths,
         columns,
         text,
+    };
+    cell_position_reply(cell_position(
+        drawing,
         numbers,
         table_bytes,
         glyphs,

@@ -6,6 +6,7 @@ ghost use Rattle.table.specs.Call.{arrays};
 ghost use Rattle.replies.specs.TableReply.{table_reply_of};
 
 use replies::tables::{TableReply, table_reply};
+use representation::lent::Drawing;
 use table::table;
 
 // table::table.
@@ -37,12 +38,15 @@ pub extern "C" fn grid_table(
         (result ≡ table_reply_of (table_answer space more given before))
         × (after ≡ table_afterwards space more given before) }
 {
-    table_reply(table(
+    let drawing = Drawing {
         lines,
         bytes,
         lengths,
         columns,
         text,
+    };
+    table_reply(table(
+        drawing,
         glyphs,
         offsets,
         down,

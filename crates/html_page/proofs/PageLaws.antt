@@ -13,9 +13,6 @@ use Rattle.grid.specs.Values.{Table}
 use Rattle.grid.specs.Flat.{code_section, columns_of_array}
 use Rattle.html.specs.Page.{column_group, row_page, page}
 use Rattle.html.specs.PageCall.{PageSizes, PageArrays, page_cells, page_table, page_accepts, page_answer, page_afterwards}
-use Rattle.table_checks.specs.Checks.{after_checks}
-use Rattle.table_checks.specs.declared.Checked.{Checked}
-use Rattle.table_checks.specs.declared.Checked.TheVariants.{Fine, Refused}
 use Rattle.writer.specs.Writing.{Wrote}
 use Rattle.writer.proofs.WritingLaws.{wrote_then, wrote_as, put_down-over}
 use Rattle.html_page.specs.Paged.{page_in, Paged}
@@ -60,15 +57,16 @@ module _ (widths : Bool) (t : Table) {none none' : List ℕ} {bytes : ℕ} (coun
       rw (le-ltb (length out) (length (page widths t)) fits) (ap accept size, p.bytes ∙ put_down-over out (page widths t) fits)
 
 -- ---- the call
-module _ (s : PageSizes) (t : PageArrays) (widths : Bool) (out : List ℕ) {r : Checked}
-    (told : (widths : Bool) (out : List ℕ) → after_checks r (page_within widths (page_table s t) out) ≡ page_accepts widths s t out) where
-  pub page-refused : {number place : ℕ} → r ≡ Refused number place → (refuse number place ≡ page_answer widths s t out) × (out ≡ page_afterwards widths s t out)
+module _ (s : PageSizes) (t : PageArrays) (widths : Bool) (out : List ℕ) where
+  pub page-refused : {number place : ℕ} → ((widths : Bool) (out : List ℕ) → refuse number place ≡ page_accepts widths s t out)
+      → (refuse number place ≡ page_answer widths s t out) × (out ≡ page_afterwards widths s t out)
   unfolding page_answer page_afterwards
-  page-refused e = rw (← told widths out, e) (refl, refl)
+  page-refused told = rw (← told widths out) (refl, refl)
 
-  pub page-done : {answer : Answer ℕ} {out' : List ℕ} → r ≡ Fine → Paged s.columns s.cells t.columns t.sections t.cells t.inner
-      → (answer ≡ and_then (page_within widths (page_in s.cells t.columns t.sections t.cells t.inner) out) (λ page. accept (length page)))
-      × (out' ≡ afterwards (page_within widths (page_in s.cells t.columns t.sections t.cells t.inner) out) (λ page. over page out) out)
+  pub page-done : ((widths : Bool) (out : List ℕ) → page_within widths (page_table s t) out ≡ page_accepts widths s t out)
+      → {answer : Answer ℕ} {out' : List ℕ} → Paged s.columns s.cells t.columns t.sections t.cells t.inner
+      → answer ≡ and_then (page_within widths (page_in s.cells t.columns t.sections t.cells t.inner) out) (λ page. accept (length page))
+      → out' ≡ afterwards (page_within widths (page_in s.cells t.columns t.sections t.cells t.inner) out) (λ page. over page out) out
       → (answer ≡ page_answer widths s t out) × (out' ≡ page_afterwards widths s t out)
   unfolding page_answer page_afterwards
-  page-done e P made = rw (← told widths out, e, page-table P s.rows s.bytes) made
+  page-done told P made after = rw (← told widths out, page-table P s.rows s.bytes) (made, after)

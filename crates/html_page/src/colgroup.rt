@@ -11,6 +11,7 @@ ghost use Rattle.html_page.specs.Paged.{col_of};
 
 use crate::share::share_of;
 use html::Share;
+use table_checks::column_entry::ColumnEntry;
 use writer::decimals::decimal;
 use writer::{copy, put};
 
@@ -19,11 +20,9 @@ fn total_width(columns: usize, cols: &[u16]) -> u32
     requires { (length cols.now ≡ 2 * columns) × (columns ≤ 127) }
     ensures { result ≡ sum (map (λ (c : GridTableColumn). c.width) (columns_of_array columns cols.now)) }
 {
-    let mut total: u32 = 0;
-    let mut k = 0;
-    while k < columns {
-        total += cols[2 * k + 1] as u32;
-        k += 1;
+    let mut total = 0;
+    for k in 0..columns {
+        total += ColumnEntry::at(cols, k).width as u32;
     }
     total
 }
@@ -63,10 +62,9 @@ fn render_cols(columns: usize, cols: &[u16], total: u32, out: &mut [u8], at: usi
         × (result ≤ at + 64 * columns) }
 {
     let mut end = at;
-    let mut k = 0;
-    while k < columns {
-        end = render_col(share_of(cols[2 * k + 1], total), out, end);
-        k += 1;
+    for k in 0..columns {
+        let width = ColumnEntry::at(cols, k).width;
+        end = render_col(share_of(width, total), out, end);
     }
     end
 }

@@ -2,32 +2,26 @@
 // a result to standard output, and a line on standard error where one of them fails.
 #![tactic(auto)]
 
-ghost use Rattle.input.specs.Within.{Within};
+ghost use Rattle.std.specs.Prelude.{◌≤◌, IfOk, length};
 
 use std::env::{Env, FillError};
+use std::io;
 use std::io::Read;
 
-#[derive(Clone, Copy)]
-pub enum Input {
-    Bytes(usize),
-    Failed,
-}
-
-// Reads until the buffer is full or the input ends.
-pub fn read_input(stdin: &mut impl Read, buffer: &mut [u8]) -> Input
-    ensures { Within buffer.new result }
+// Reads until the buffer is full or the input ends, and counts the bytes.
+pub fn read_input(stdin: &mut impl Read, buffer: &mut [u8]) -> io::Result<usize>
+    ensures { IfOk result (λ n. n ≤ length buffer.new) }
 {
     let mut n = 0;
+    // A while: a read gives as many bytes as there are.
     while n < buffer.len() {
-        let Ok(more) = stdin.read(&mut buffer[n..]) else {
-            return Input::Failed;
-        };
+        let more = stdin.read(&mut buffer[n..])?;
         if more == 0 {
-            return Input::Bytes(n);
+            return Ok(n);
         }
         n += more;
     }
-    Input::Bytes(n)
+    Ok(n)
 }
 
 // Whether the program was given an argument of this number; its name is number 0.
@@ -36,41 +30,18 @@ fn has_argument(rt: &impl Env, i: usize) -> bool {
     !matches!(rt.arg(i, &mut word), Err(FillError::NotPresent))
 }
 
-// The sheet that the program of this name works on. Where there is none it has said why.
-pub fn read_sheet(rt: &HostRuntime, name: &[u8], buffer: &mut [u8]) -> Input
-    ensures { Within buffer.new result }
-{
-    // Whoever names a file must not be left waiting for standard input.
-    if has_argument(rt, 1) {
-        say(rt, b"usage: ", name, b" < SHEET\n");
-        return Input::Failed;
-    }
-    read_bytes(rt, name, buffer)
-}
-
-// Whether a program has its one option.
-#[derive(Clone, Copy)]
-pub enum Choice {
-    Off,
-    On,
-    Other,
-}
-
-// What the arguments of a program with this one option choose.
-pub fn read_choice(rt: &impl Env, option: &[u8]) -> Choice {
+// Whether a program with this one option is given it; none where its arguments are others.
+pub fn read_choice(rt: &impl Env, option: &[u8]) -> Option<bool> {
     if !has_argument(rt, 1) {
-        return Choice::Off;
+        return Some(false);
     }
     // A word that does not fit is read as none.
     let mut word = [0u8; 32];
-    let n = match rt.arg(1, &mut word) {
-        Ok(n) => n,
-        Err(_) => 0,
-    };
-    if !has_argument(rt, 2) & (&word[0..n] == option) {
-        return Choice::On;
+    let n = rt.arg(1, &mut word).unwrap_or(0);
+    if !has_argument(rt, 2) && &word[..n] == option {
+        return Some(true);
     }
-    Choice::Other
+    None
 }
 
 // A line of usage of the program of this name and option.
@@ -79,25 +50,43 @@ pub fn say_usage(rt: &HostRuntime, name: &[u8], option: &[u8]) {
     say(rt, b"", option, b"] < SHEET\n");
 }
 
-// The bytes of the sheet, or a line that there are none.
-pub fn read_bytes(rt: &HostRuntime, name: &[u8], buffer: &mut [u8]) -> Input
-    ensures { Within buffer.new result }
+// Prints the answer of the program of this name to the sheet on standard input: the bytes that `write` puts at the start of
+// the array that it is given, and counts.
+pub fn answer_sheet<F: FnOnce(&[u8], &mut [u8; 196608]) -> usize>(
+    rt: &HostRuntime,
+    name: &[u8],
+    write: F,
+)
+    requires callable { F.IsAlwaysCallable write }
+    requires count { (sheet out n rest : _) → F.post write sheet out n rest → n ≤ 196608 }
 {
-    let input = read_input(&mut rt.stdin(), buffer);
-    match input {
-        Input::Failed => {
-            say(rt, b"", name, b": input cannot be read\n");
-        }
-        Input::Bytes(_) => {}
-    }
-    input
-}
-
-// Writes the result of the program of this name, or says that it cannot be written.
-pub fn write_result(rt: &HostRuntime, name: &[u8], res: &[u8]) {
-    if rt.stdout().write_all(res).is_err() {
+    // One byte more than the longest drawing, 32,768 bytes of text and 128 line feeds: as many
+    // pass a limit, whatever follows.
+    let mut sheet = [0u8; 32897];
+    let Ok(n) = read_input(&mut rt.stdin(), &mut sheet) else {
+        return say(rt, b"", name, b": input cannot be read\n");
+    };
+    let mut out = [0u8; 196608];
+    let end = write(&sheet[..n], &mut out);
+    if rt.stdout().write_all(&out[..end]).is_err() {
         say(rt, b"", name, b": output cannot be written\n");
     }
+}
+
+// The same of a program without arguments.
+pub fn answer_only<F: FnOnce(&[u8], &mut [u8; 196608]) -> usize>(
+    rt: &HostRuntime,
+    name: &[u8],
+    write: F,
+)
+    requires callable { F.IsAlwaysCallable write }
+    requires count { (sheet out n rest : _) → F.post write sheet out n rest → n ≤ 196608 }
+{
+    // Whoever names a file must not be left waiting for standard input.
+    if has_argument(rt, 1) {
+        return say(rt, b"usage: ", name, b" < SHEET\n");
+    }
+    answer_sheet(rt, name, write);
 }
 
 // A line about the program of this name. Where standard error takes none, nobody is left to be told.

@@ -11,14 +11,17 @@ use Rattle.seq.specs.Lists.{sum, any}
 use Rattle.seq.proofs.Tests.{true-not-false}
 use Rattle.grid.specs.Answer.{refuse}
 use Rattle.grid.specs.Values.{Line}
+use Rattle.grid.specs.Listing.{lines_read}
 use Rattle.grid.specs.Read.{drawing_too_large, read_rects, read_layout}
 use Rattle.grid.specs.Flat.{FlatDrawing, drawing_contradicts, split_text, lines_with, lines_of}
 use Rattle.grid.specs.LayoutCall.{LayoutSpace, space_short, drawing, spaces}
 use Rattle.grid.proofs.FlatLaws.{length-lines}
 use Rattle.input_lines.specs.Splitting.{Held, Splits}
 use Rattle.input_lines.specs.Sheet.{lines_at0}
-use Rattle.input_lines.specs.declared.Split.{Split}
-use Rattle.input_lines.specs.declared.Split.TheVariants.{Lines}
+use Rattle.std.specs.Prelude.{Result, Ok, Err}
+use Rattle.refusals.specs.declared.Refusal.{Refusal}
+use Rattle.refusals.specs.declared.Refusal.TheVariants.{TooLarge}
+use Rattle.input_lines.specs.declared.Lines.{Lines}
 
 -- The drawing that is handed in
 
@@ -97,12 +100,23 @@ too-large-refused (line ∷ lines) h = rw h
 
 -- What splitting told
 
-pub split-held : (input lengths text : List ℕ) (r : Split) (lines bytes : ℕ) → r ≡ Lines lines bytes → Splits input lengths text r → Held input lengths text lines bytes
-split-held input lengths text r lines bytes e h = rw e at h
+pub split-refused : (input lengths text : List ℕ) (r : Result Lines Refusal) (refusal : Refusal) → r ≡ Err refusal → Splits input lengths text r
+    → (refusal ≡ TooLarge) × (read_layout (lines_read input) ≡ refuse 2 0)
+split-refused input lengths text r refusal e h =
+    let told : Splits input lengths text (Err refusal) = rw e at h in (told.0, too-large-refused (lines_read input) told.1)
 
-module _ (input lengths text : List ℕ) (r : Split) (lines bytes : ℕ) (e : r ≡ Lines lines bytes) (rooms : (length lengths ≡ 128) × (length text ≡ 32768)) (h : Splits input lengths text r) where
+pub split-held : (input lengths text : List ℕ) (r : Result Lines Refusal) (l : Lines) → r ≡ Ok l → Splits input lengths text r → Held input lengths text l.lines l.bytes
+split-held input lengths text r l e h = rw e at h
+
+module _ (input lengths text : List ℕ) (r : Result Lines Refusal) (l : Lines) (e : r ≡ Ok l) (rooms : (length lengths ≡ 128) × (length text ≡ 32768)) (h : Splits input lengths text r) where
+  abbrev lines : ℕ
+  lines = l.lines
+
+  abbrev bytes : ℕ
+  bytes = l.bytes
+
   held : Held input lengths text lines bytes
-  held = split-held input lengths text r lines bytes e h
+  held = split-held input lengths text r l e h
 
   pub lines_fit : lines ≤ length lengths
   lines_fit = omega (arith, rooms.0, held.few_lines)

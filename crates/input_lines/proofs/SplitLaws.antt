@@ -76,10 +76,11 @@ module _ (s : List ℕ) (from i : ℕ) (low : from ≤ i) (e : split_lines (drop
       rw more (e ∙ ap (onto (take (i - from) (drop from s))) (other_step s i h f) ∙ sym (onto-more (take (i - from) (drop from s)) (get_or s i 0) (split_lines (drop (i + 1) s))))
 
   pub feed-none : i ≤ length s → length s ≤ i → from < length s
-      → split_lines (drop from s) ≡ take (i - from) (drop from s) ∷ split_lines (drop (i + 1) s)
+      → split_lines (drop from s) ≡ take (length s - from) (drop from s) ∷ split_lines (drop (length s + 1) s)
   feed-none h k some =
+      let at : length s ≡ i = omega arith in
       let long : 0 < length (take (i - from) (drop from s)) = omega (arith, length-take-le (i - from) (drop from s) (omega (arith, length-drop from s))) in
-      rw (end_step s (i + 1) (omega arith)) (e ∙ ap (onto (take (i - from) (drop from s))) (end_step s i k) ∙ onto-last _ long)
+      rw (at, end_step s (i + 1) (omega arith)) (e ∙ ap (onto (take (i - from) (drop from s))) (end_step s i k) ∙ onto-last _ long)
 
 pub feed-start : (s : List ℕ) (from : ℕ) → split_lines (drop from s) ≡ onto (take (from - from) (drop from s)) (split_lines (drop from s))
 unfolding onto

@@ -1,12 +1,13 @@
 -- What splitting an input leaves.
-use Rattle.std.specs.Prelude.{ℕ, ◌≤◌, ◌≡◌, true, List, [], ◌∷◌, ◌++◌, length, take, drop}
+use Rattle.std.specs.Prelude.{ℕ, ◌≤◌, ◌≡◌, true, List, [], ◌∷◌, ◌++◌, length, take, drop, Result, Ok, Err}
 use Rattle.seq.specs.Lists.{sum}
 use Rattle.text.specs.Rule.{onto_first}
 use Rattle.grid.specs.Flat.{split_text}
 use Rattle.grid.specs.Read.{drawing_too_large}
 use Rattle.grid.specs.Listing.{split_lines, lines_read}
-use Rattle.input_lines.specs.declared.Split.{Split}
-use Rattle.input_lines.specs.declared.Split.TheVariants.{Lines, TooLarge}
+use Rattle.refusals.specs.declared.Refusal.{Refusal}
+use Rattle.refusals.specs.declared.Refusal.TheVariants.{TooLarge}
+use Rattle.input_lines.specs.declared.Lines.{Lines}
 
 -- the lines of the input stand in the arrays
 pub record Held (input lengths text : List ℕ) (lines bytes : ℕ) : Type 0 where
@@ -15,9 +16,10 @@ pub record Held (input lengths text : List ℕ) (lines bytes : ℕ) : Type 0 whe
   pub whole : sum (take lines lengths) ≡ bytes
   pub split : split_text (take lines lengths) (take bytes text) ≡ split_lines input
 
-abbrev pub Splits : List ℕ → List ℕ → List ℕ → Split → Type 0
-Splits input lengths text (Lines lines bytes) = Held input lengths text lines bytes
-Splits input lengths text TooLarge = drawing_too_large (lines_read input) ≡ true
+-- the lines stand in the arrays, or the input passes a limit
+abbrev pub Splits : List ℕ → List ℕ → List ℕ → Result Lines Refusal → Type 0
+Splits input lengths text (Ok held) = Held input lengths text held.lines held.bytes
+Splits input lengths text (Err refusal) = (refusal ≡ TooLarge) × (drawing_too_large (lines_read input) ≡ true)
 
 -- the lines up to the input's byte `at` stand in the arrays
 pub record Splitting (input lengths text : List ℕ) (lines bytes at : ℕ) : Type 0 where

@@ -1,5 +1,5 @@
 -- The parts and the column and row lines that were found, of a traced drawing: what the layout and table calls write from.
-use Prim.Native.Nat.{ℕ, ◌-◌, ◌≤◌, ◌<◌}
+use Prim.Native.Nat.{◌-◌, ◌≤◌, ◌<◌}
 use mathlib.Core.Path.{◌≡◌, ap}
 use mathlib.Core.List.{Memᴰ}
 use native.Mathlib.Omega.{arith}
@@ -10,21 +10,21 @@ use Rattle.grid.specs.Slots.{grid_of}
 use Rattle.grid.specs.Layout.{first_of, last_but_one, head_end, foot_start, column_lines, row_lines}
 use Rattle.slots.specs.Filling.{separator_lines}
 use Rattle.representation.specs.Edges.{Collected, row_lines_below, column_lines_below}
-use Rattle.representation.specs.LayoutEntries.{lines_held, Rising, Numbered}
+use Rattle.representation.specs.LayoutEntries.{lines_held, Numbered}
 use Rattle.representation.specs.declared.Bounds.{Bounds}
 use Rattle.representation.specs.declared.Parts.{Parts}
-use Rattle.representation.proofs.TracedLaws.{tops-held, lefts-held, tops-rise, lefts-rise, tops-some, lefts-some, lefts-small, grid_answer-numbered}
+use Rattle.representation.proofs.TracedLaws.{tops-held, lefts-held, grid_answer-numbered}
 use Rattle.reading.specs.Call.{SheetArrays, lines_in, rects_in, TracedSheet}
-use Rattle.reading.specs.declared.Outcome.{Outcome}
+use Rattle.reading.specs.declared.Reading.{Reading}
 use Rattle.reading.proofs.SheetLaws.{traced-accepted, traced-holds, traced_lines, traced-height, traced-width, traced-separators, traced-laid}
 
 -- the parts that were found
-abbrev pub PartsFound : SheetArrays → Outcome → Parts → Type 0
+abbrev pub PartsFound : SheetArrays → Reading → Parts → Type 0
 PartsFound a o p =
     (p.head ≡ or_default 0 (first_of (separator_lines o.separators)))
     × (p.foot ≡ or_default 128 (last_but_one (length a.lengths - 1) (separator_lines o.separators)))
 
-module _ {a : SheetArrays} {o : Outcome} (t : TracedSheet a o) where
+module _ {a : SheetArrays} {o : Reading} (t : TracedSheet a o) where
   module _ (p : Parts) (parts : PartsFound a o p) where
     pub parts-head : p.head ≡ or_default 0 (head_end (grid_of (lines_in a)))
     parts-head = rw (← traced-separators a o t) parts.0
@@ -50,12 +50,6 @@ module _ {a : SheetArrays} {o : Outcome} (t : TracedSheet a o) where
     narrow : (grid_of (lines_in a)).width ≤ 128
     narrow = rw (traced-width a o t) t.roomy.width_fits
 
-    pub tops-found-some : 1 ≤ tops.count
-    tops-found-some = tops-some _ _ _ _ (traced-accepted a o t) (traced-holds a o t) low narrow _ _ down across
-
-    pub lefts-found-some : 1 ≤ lefts.count
-    lefts-found-some = lefts-some _ _ _ _ (traced-accepted a o t) (traced-holds a o t) low narrow _ _ down across
-
     pub tops-found : lines_held tops ≡ row_lines (grid_of (lines_in a)) (rects_in a o.cells)
     tops-found = tops-held _ _ _ _ (traced-accepted a o t) (traced-holds a o t) low narrow _ _ down across
 
@@ -69,15 +63,6 @@ module _ {a : SheetArrays} {o : Outcome} (t : TracedSheet a o) where
     pub lefts-found-count : lefts.count - 1 ≡ length (column_lines (grid_of (lines_in a)) (rects_in a o.cells)) - 1
     unfolding column_lines
     lefts-found-count = ap (λ n. n - 1) across.counted
-
-    pub tops-found-rise : Rising tops
-    tops-found-rise = tops-rise _ _ _ _ (traced-accepted a o t) (traced-holds a o t) low narrow _ _ down across
-
-    pub lefts-found-rise : Rising lefts
-    lefts-found-rise = lefts-rise _ _ _ _ (traced-accepted a o t) (traced-holds a o t) low narrow _ _ down across
-
-    pub lefts-found-small : (x : ℕ) → Memᴰ x (lines_held lefts) → x < 128
-    lefts-found-small = lefts-small _ _ _ _ (traced-accepted a o t) (traced-holds a o t) low narrow _ _ down across
 
     pub rects-found-numbered : (r : Rect) → Memᴰ r (rects_in a o.cells) → Numbered tops lefts r
     rects-found-numbered = grid_answer-numbered _ _ _ _ (traced-accepted a o t) (traced-holds a o t) low narrow _ _ down across

@@ -1,35 +1,31 @@
 -- What the sizes of a layout are.
-use Rattle.std.specs.Prelude.{ℕ, ◌*◌, ◌-◌, ◌≤◌, ◌<◌, ◌≡◌, Bool, ◌||◌, ltb, length, get_or}
-use mathlib.Core.List.{List, Memᴰ}
+use Rattle.std.specs.Prelude.{ℕ, ◌*◌, ◌-◌, ◌≡◌, Bool, ◌||◌, ltb, List, length}
 use Rattle.grid.specs.Values.{Rect}
 use Rattle.grid.specs.Layout.{inner_count}
-use Rattle.representation.specs.Arrays.{rects_of}
 use Rattle.representation.specs.Edges.{Collected, row_lines_below, column_lines_below}
-use Rattle.representation.specs.LayoutEntries.{Inside}
-use Rattle.layout.specs.declared.sizes.Sizes.{Sizes}
-
--- n rectangles of a drawing, which lie inside it and have lines
-pub record RectsMeasurable (height width n : ℕ) (rects : List ℕ) : Type 0 where
-  pub few : n ≤ 1024
-  pub room : 4 * n ≤ length rects
-  pub low : height ≤ 128
-  pub narrow : width ≤ 128
-  pub small : (i : ℕ) → i < 4 * n → get_or rects i 0 < 128
-  pub inside : (r : Rect) → Memᴰ r (rects_of n rects) → Inside 128 128 r
-  pub some_row : 1 ≤ length (row_lines_below height (rects_of n rects))
-  pub some_column : 1 ≤ length (column_lines_below width (rects_of n rects))
+use Rattle.layout.specs.declared.sizes.Measured.{Measured}
 
 -- the tests of 12
 abbrev pub sizes_short : ℕ → ℕ → ℕ → ℕ → ℕ → ℕ → ℕ → ℕ → Bool
 sizes_short cols rows cells ranges across down n m =
     ltb cols (2 * across) || ltb rows (3 * down) || ltb cells (5 * n) || ltb ranges (2 * m)
 
+-- and of the arrays of a layout with these n rectangles
+abbrev pub rects_short : ℕ → ℕ → List Rect → ℕ → ℕ → ℕ → ℕ → ℕ → Bool
+rects_short height width rs n cols rows cells ranges =
+    sizes_short cols rows cells ranges (length (column_lines_below width rs) - 1) (length (row_lines_below height rs) - 1) n (inner_count rs)
+
 -- the lines and sizes of n rectangles
-pub record LayoutSized (height width n : ℕ) (rects : List ℕ) (cols rows cells ranges : ℕ) (s : Sizes) : Type 0 where
-  pub down : Collected (row_lines_below height (rects_of n rects)) height s.tops
-  pub across : Collected (column_lines_below width (rects_of n rects)) width s.lefts
-  pub columns_told : s.columns ≡ s.lefts.count - 1
-  pub rows_told : s.rows ≡ s.tops.count - 1
-  pub cells_told : s.cells ≡ n
-  pub ranges_told : s.ranges ≡ inner_count (rects_of n rects)
-  pub short_told : s.short ≡ sizes_short cols rows cells ranges s.columns s.rows s.cells s.ranges
+pub record SizesTold (height width : ℕ) (rs : List Rect) (n : ℕ) (m : Measured) : Type 0 where
+  pub down : Collected (row_lines_below height rs) height m.tops
+  pub across : Collected (column_lines_below width rs) width m.lefts
+  pub width_told : m.sizes.width.0 ≡ width
+  pub columns_told : m.sizes.columns ≡ m.lefts.count - 1
+  pub rows_told : m.sizes.rows ≡ m.tops.count - 1
+  pub cells_told : m.sizes.cells ≡ n
+  pub ranges_told : m.sizes.ranges ≡ inner_count rs
+
+-- and whether arrays of these lengths have too little room for them
+pub record LayoutSized (height width : ℕ) (rs : List Rect) (n cols rows cells ranges : ℕ) (m : Measured) : Type 0 where
+  pub told : SizesTold height width rs n m
+  pub short_told : m.short ≡ rects_short height width rs n cols rows cells ranges

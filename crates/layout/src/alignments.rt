@@ -5,45 +5,52 @@ ghost use Rattle.grid.specs.Flat.{alignment_code};
 ghost use Rattle.grid.specs.LayoutCall.{slot_space};
 ghost use Rattle.representation.specs.LayoutEntries.{alignment_from};
 
+use grid::TableAlignment;
 use representation::{PLUS, STRIDE};
 use rule_lines::rule::segment_end;
 use slots::map::byte_at;
 use text::Column;
 
-// 0 for no alignment, 1 for left, 2 for right, 3 for both.
-fn segment_alignment(segment: &[u8]) -> u16
-    ensures { result ≡ alignment_code (segment_alignment segment.now) }
+fn segment_alignment(segment: &[u8]) -> TableAlignment
+    ensures { result ≡ segment_alignment segment.now }
 {
-    let n = segment.len();
-    if n == 0 {
-        return 0;
+    if segment.is_empty() {
+        return TableAlignment::None;
     }
-    let last = segment[n - 1];
-    if segment[0] == b':' {
-        if last == b':' {
-            return 3;
-        }
-        return 1;
+    match (segment[0] == b':', segment[segment.len() - 1] == b':') {
+        (true, true) => TableAlignment::Center,
+        (true, false) => TableAlignment::Left,
+        (false, true) => TableAlignment::Right,
+        (false, false) => TableAlignment::None,
     }
-    if last == b':' {
-        return 2;
-    }
-    0
 }
 
-// The alignment of the column that starts at slot x of the alignment line a.
-pub fn alignment(glyphs: &[u8], offsets: &[u16], line: &[u8], a: usize, x: Column) -> u16
-    requires { (slot_space ≤ length glyphs.now) × (slot_space ≤ length offsets.now) × (a < 128) × (x.0 < 128) }
-    ensures { result ≡ alignment_from glyphs.now offsets.now line.now a x.0 }
-{
-    if glyphs[a * STRIDE + x.0] != PLUS {
-        return 0;
+// The line that aligns the columns: the slots of all lines, which line it is, and its trimmed text.
+#[derive(Clone, Copy)]
+pub struct AlignmentLine<'a> {
+    pub glyphs: &'a [u8],
+    pub offsets: &'a [u16],
+    pub line: usize,
+    pub text: &'a [u8],
+    pub ghost glyph_room: { slot_space ≤ length glyphs.now },
+    pub ghost offset_room: { slot_space ≤ length offsets.now },
+    pub ghost low: { line < 128 },
+}
+
+impl<'a> AlignmentLine<'a> {
+    // The alignment of the column that starts at slot x.
+    pub fn alignment(&self, x: Column) -> TableAlignment
+        requires { x.0 < 128 }
+        ensures { let a = self.now in
+            alignment_code result ≡ alignment_from a.glyphs.now a.offsets.now a.text.now a.line x.0 }
+    {
+        if self.glyphs[self.line * STRIDE + x.0] != PLUS {
+            return TableAlignment::None;
+        }
+        let from = byte_at(self.offsets, self.line, x).0 + 1;
+        match self.text.get(from..) {
+            Some(rest) => segment_alignment(&rest[..segment_end(rest)]),
+            None => TableAlignment::None,
+        }
     }
-    let from = byte_at(offsets, a, x).0 + 1;
-    if line.len() < from {
-        return 0;
-    }
-    let rest = &line[from..];
-    let end = segment_end(rest);
-    segment_alignment(&rest[..end])
 }

@@ -21,110 +21,94 @@ pub mod sections;
 pub mod sizes;
 
 ghost use Rattle.std.specs.Prelude.{◌≡◌};
-ghost use Rattle.grid.specs.Flat.{lines_from};
-ghost use Rattle.grid.specs.LayoutCall.{layout_answer, layout_afterwards, spaces, drawing};
+ghost use Rattle.grid.specs.LayoutCall.{layout_answer, layout_afterwards, spaces};
+ghost use Rattle.representation.specs.Lent.{drawing_of};
 ghost use Rattle.representation.specs.LayoutParts.{finish_sizes, finish_arrays};
-ghost use Rattle.representation.specs.Arrays.{rects_of};
-ghost use Rattle.reading.specs.Call.{sheet_of, TracedSheet};
+ghost use Rattle.reading.specs.Call.{lines_in, rects_in};
+ghost use Rattle.reading.specs.Sheets.{arrays_in};
 ghost use Rattle.layout.specs.Call.{layout_answer_of, layout_lent};
 
+use crate::alignments::AlignmentLine;
 use crate::arrays::write_layout;
 use crate::sections::find_parts;
 use crate::sizes::measure;
-use reading::{Outcome, read, trimmed_line};
+use reading::{TracedDrawing, read, trimmed_line};
+use refusals::Refusal;
+use representation::lent::Drawing;
+use representation::rects::Rects;
 use text::Column;
 
-// The width of the drawing and how many columns, rows, cells and ranges were written; or a refusal.
-#[derive(Clone, Copy)]
-pub enum LayoutAnswer {
-    Accepted {
-        width: Column,
-        columns: usize,
-        rows: usize,
-        cells: usize,
-        ranges: usize,
-    },
-    Refused {
-        number: usize,
-        place: usize,
-    },
+/// The width of a drawing, and how many columns, rows, cells and ranges were written.
+#[derive(Clone, Copy, Debug, PartialEq, Eq)]
+pub struct LayoutSizes {
+    pub width: Column,
+    pub columns: usize,
+    pub rows: usize,
+    pub cells: usize,
+    pub ranges: usize,
 }
 
 // From the traced rectangles to the layout.
 fn finish(
-    lengths: &[u16],
-    columns: &[u16],
-    text: &[u8],
-    outcome: Outcome,
-    glyphs: &[u8],
-    offsets: &[u16],
-    rects: &[u8],
+    traced: TracedDrawing<'_>,
     cols: &mut [u16],
     rows: &mut [u16],
     cells: &mut [u16],
     ranges: &mut [u16],
-) -> LayoutAnswer
-    requires { TracedSheet (sheet_of lengths.now columns.now text.now glyphs.now offsets.now rects.now) outcome }
+) -> Result<LayoutSizes, Refusal>
     ensures { let before = layout_lent cols.old rows.old cells.old ranges.old in
         let after = layout_lent cols.new rows.new cells.new ranges.new in
-        let rs = rects_of outcome.cells rects.now in
-        let drawn = lines_from lengths.now columns.now text.now in
-        (layout_answer_of result ≡ finish_sizes drawn rs before) × (after ≡ finish_arrays drawn rs before) }
+        let sheet = arrays_in traced.entry in
+        let rs = rects_in sheet traced.entry.reading.cells in
+        (layout_answer_of result ≡ finish_sizes (lines_in sheet) rs before)
+        × (after ≡ finish_arrays (lines_in sheet) rs before) }
 {
-    let height = lengths.len();
-    let width = outcome.width;
-    let n = outcome.cells;
-    let sizes = measure(
+    let drawing = traced.drawing;
+    let reading = traced.reading;
+    let height = drawing.lengths.len();
+    let rects = Rects {
+        array: traced.rects,
+        count: reading.cells,
+    };
+    let measured = measure(
         rects,
-        n,
         height,
-        width,
+        reading.width,
         cols.len(),
         rows.len(),
         cells.len(),
         ranges.len(),
     );
-    if sizes.short {
-        return LayoutAnswer::Refused {
-            number: 12,
-            place: 0,
-        };
+    if measured.short {
+        return Err(Refusal::OutputShort);
     }
-    let separators = outcome.separators;
-    let lines = separators.lines;
-    let parts = find_parts(lines, separators.count, height);
-    let line = trimmed_line(lengths, text, parts.head);
+    let separators = reading.separators;
+    let parts = find_parts(&separators.lines[..separators.count], height);
+    let line = AlignmentLine {
+        glyphs: traced.glyphs,
+        offsets: traced.offsets,
+        line: parts.head,
+        text: trimmed_line(drawing, parts.head),
+    };
     write_layout(
         rects,
-        n,
-        sizes.tops,
-        sizes.lefts,
+        measured.tops,
+        measured.lefts,
         parts,
-        glyphs,
-        offsets,
         line,
+        traced.offsets,
         cols,
         rows,
         cells,
         ranges,
     );
-    LayoutAnswer::Accepted {
-        width,
-        columns: sizes.columns,
-        rows: sizes.rows,
-        cells: sizes.cells,
-        ranges: sizes.ranges,
-    }
+    Ok(measured.sizes)
 }
 
 // The layout of a drawing. Working space: glyphs, offsets, down and right of 16,384 entries each,
 // rects of 4,096.
 pub fn layout(
-    lines: usize,
-    bytes: usize,
-    lengths: &[u16],
-    columns: &[u16],
-    text: &[u8],
+    drawing: Drawing<'_>,
     glyphs: &mut [u8],
     offsets: &mut [u16],
     down: &mut [u8],
@@ -134,24 +118,21 @@ pub fn layout(
     rows: &mut [u16],
     cells: &mut [u16],
     ranges: &mut [u16],
-) -> LayoutAnswer
+) -> Result<LayoutSizes, Refusal>
     ensures { let space = spaces glyphs.old offsets.old down.old right.old rects.old in
-        let given = drawing lines bytes lengths.now columns.now text.now in
+        let given = drawing_of drawing.entry in
         let before = layout_lent cols.old rows.old cells.old ranges.old in
         let after = layout_lent cols.new rows.new cells.new ranges.new in
         (layout_answer_of result ≡ layout_answer space given before)
         × (after ≡ layout_afterwards space given before) }
 {
-    let outcome = read(
-        lines, bytes, lengths, columns, text, glyphs, offsets, down, right, rects,
-    );
-    if outcome.number != 0 {
-        return LayoutAnswer::Refused {
-            number: outcome.number,
-            place: outcome.place,
-        };
-    }
-    finish(
-        lengths, columns, text, outcome, glyphs, offsets, rects, cols, rows, cells, ranges,
-    )
+    let reading = read(drawing, glyphs, offsets, down, right, rects)?;
+    let traced = TracedDrawing {
+        drawing,
+        glyphs,
+        offsets,
+        rects,
+        reading,
+    };
+    finish(traced, cols, rows, cells, ranges)
 }

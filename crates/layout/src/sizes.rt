@@ -1,50 +1,59 @@
-// The sizes of a layout, with its column and row lines, and whether its arrays are too short.
-ghost use Rattle.layout.specs.Sized.{RectsMeasurable, LayoutSized};
+// The sizes of a layout, with its column and row lines.
+ghost use Rattle.std.specs.Prelude.{◌≤◌};
+ghost use mathlib.Core.List.{Memᴰ};
+ghost use Rattle.grid.specs.Values.{Rect};
+ghost use Rattle.representation.specs.LayoutEntries.{Inside};
+ghost use Rattle.representation.specs.Traced.{rects_held};
+ghost use Rattle.layout.specs.Sized.{LayoutSized};
 
+use crate::LayoutSizes;
 use crate::bounds::{col_bounds, row_bounds};
 use crate::range_entries::count_ranges;
 use representation::Bounds;
+use representation::rects::Rects;
 use text::Column;
 
-// How many columns, rows, cells and ranges; short where an array has too little room for them.
+// The lines between which the rows and columns of a layout lie, its sizes, and whether an array has
+// too little room for them. No Result: the lines and sizes are told of a short array too.
 #[derive(Clone, Copy)]
-pub struct Sizes {
+pub struct Measured {
     pub tops: Bounds,
     pub lefts: Bounds,
-    pub columns: usize,
-    pub rows: usize,
-    pub cells: usize,
-    pub ranges: usize,
+    pub sizes: LayoutSizes,
     pub short: bool,
 }
 
-// From n rectangles of a drawing, and the lengths of the four arrays.
+// From the rectangles of a drawing, and the lengths of the four arrays.
 pub fn measure(
-    rects: &[u8],
-    n: usize,
+    rects: Rects,
     height: usize,
     width: Column,
     cols: usize,
     rows: usize,
     cells: usize,
     ranges: usize,
-) -> Sizes
-    requires { RectsMeasurable height width.0 n rects.now }
-    ensures { LayoutSized height width.0 n rects.now cols rows cells ranges result }
+) -> Measured
+    requires size { (height ≤ 128) × (width.0 ≤ 128) }
+    requires inside { (r : Rect) → Memᴰ r (rects_held rects) → Inside 128 128 r }
+    ensures { LayoutSized height width.0 (rects_held rects.entry) rects.entry.count cols rows cells ranges result }
 {
-    let tops = row_bounds(rects, n, height);
-    let lefts = col_bounds(rects, n, width);
-    let m = count_ranges(rects, n);
-    let down = tops.count - 1;
-    let across = lefts.count - 1;
-    let short = (cols < 2 * across) | (rows < 3 * down) | (cells < 5 * n) | (ranges < 2 * m);
-    Sizes {
+    let tops = row_bounds(rects, height);
+    let lefts = col_bounds(rects, width);
+    let sizes = LayoutSizes {
+        width,
+        columns: lefts.bands(),
+        rows: tops.bands(),
+        cells: rects.count,
+        ranges: count_ranges(rects),
+    };
+    let short = cols < 2 * sizes.columns
+        || rows < 3 * sizes.rows
+        || cells < 5 * sizes.cells
+        || ranges < 2 * sizes.ranges;
+    Measured {
         tops,
         lefts,
-        columns: across,
-        rows: down,
-        cells: n,
-        ranges: m,
+        sizes,
         short,
     }
 }

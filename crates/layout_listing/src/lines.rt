@@ -6,8 +6,10 @@ ghost use Rattle.printing.specs.Printing.{Prints};
 ghost use Rattle.layout_listing.specs.Listed.{listed_lines, LayoutTold};
 
 use crate::print::table;
-use layout::LayoutAnswer;
+use layout::{LayoutSizes, layout};
 use printing::refused;
+use refusals::Refusal;
+use representation::lent::Drawing;
 
 // The layout of a drawing's lines, all at column 0, with working space as the call names it.
 fn lines_layout(
@@ -16,25 +18,28 @@ fn lines_layout(
     cols: &mut [u16],
     rows: &mut [u16],
     cells: &mut [u16],
-) -> LayoutAnswer
+) -> Result<LayoutSizes, Refusal>
     requires lengths_len_bound { (length lengths.now ≤ 128) × (sum lengths.now ≡ length text.now) }
     requires cols_len { (length cols.old ≡ 254) × (length rows.old ≡ 381) × (length cells.old ≡ 5120) }
     ensures { LayoutTold lengths.now text.now cols.new rows.new cells.new result }
 {
     let lines = lengths.len();
-    let origins = [0u16; 128];
+    let columns = [0u16; 128];
     let mut glyphs = [0u8; 16384];
     let mut offsets = [0u16; 16384];
     let mut down = [0u8; 16384];
     let mut right = [0u8; 16384];
     let mut rects = [0u8; 4096];
     let mut ranges = [0u16; 32768];
-    layout::layout(
+    let drawing = Drawing {
         lines,
-        text.len(),
+        bytes: text.len(),
         lengths,
-        &origins[0..lines],
+        columns: &columns[0..lines],
         text,
+    };
+    layout(
+        drawing,
         &mut glyphs,
         &mut offsets,
         &mut down,
@@ -57,23 +62,7 @@ pub fn list_lines(lengths: &[u16], text: &[u8], out: &mut [u8]) -> usize
     let mut rows = [0u16; 381];
     let mut cells = [0u16; 5120];
     match lines_layout(lengths, text, &mut cols, &mut rows, &mut cells) {
-        LayoutAnswer::Refused { number, place } => refused(number, place, out),
-        LayoutAnswer::Accepted {
-            width,
-            columns: across,
-            rows: tall,
-            cells: count,
-            ranges: _,
-        } => table(
-            width.0,
-            lengths.len(),
-            across,
-            tall,
-            count,
-            &cols,
-            &rows,
-            &cells,
-            out,
-        ),
+        Err(refusal) => refused(refusal.number(), refusal.place(), out),
+        Ok(sizes) => table(sizes, lengths.len(), &cols, &rows, &cells, out),
     }
 }

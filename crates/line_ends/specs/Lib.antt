@@ -1,2 +1,2 @@
-pub mod Call
 pub mod Search
+pub mod Call

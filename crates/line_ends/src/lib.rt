@@ -6,155 +6,132 @@ pub mod search;
 
 ghost use Rattle.std.specs.Prelude.{◌<◌, ◌≡◌, length, set};
 ghost use Rattle.sourcepos.specs.LineEndCalls.{register, register_contradicts, bad_end, end_too_large, add_answer, add_afterwards, find_answer, remap_answer};
+ghost use Rattle.line_ends.specs.Search.{register_of};
 ghost use Rattle.line_ends.specs.Call.{add_answer_of, find_answer_of, remap_answer_of, count_after};
 
 use crate::search::last_end;
+use refusals::Refusal;
 use sourcepos::CellLineEnd;
 
 const REGISTER_ROOM: usize = 1024;
 
 const MAX_REGISTER: u32 = 65535;
 
-// How many ends the register now holds; or a refusal.
+// The register as it is lent: how many ends it holds, and an array for each of their numbers.
 #[derive(Clone, Copy)]
-pub enum AddAnswer {
-    Accepted(usize),
-    Refused { number: usize, place: usize },
-}
-
-// The eol of the end that was found, or that none reaches; or a refusal.
-#[derive(Clone, Copy)]
-pub enum FindAnswer {
-    Found(u32),
-    None,
-    Refused { number: usize, place: usize },
-}
-
-// The end moved onto its fragment; or a refusal.
-#[derive(Clone, Copy)]
-pub enum RemapAnswer {
-    Accepted(CellLineEnd),
-    Refused { number: usize, place: usize },
+pub struct Register<'a> {
+    pub count: usize,
+    pub lines: &'a [u32],
+    pub starts: &'a [u32],
+    pub eols: &'a [u32],
 }
 
 // 13, of a register.
-fn contradicts(count: usize, lines: &[u32], starts: &[u32], eols: &[u32]) -> bool
-    ensures { result ≡ register_contradicts (register count lines.now starts.now eols.now) }
+#[tactic(auto, unfolding(sourcepos::specs::LineEndCalls::register_contradicts))]
+fn contradicts(register: Register) -> bool
+    ensures { result ≡ register_contradicts (register_of register.entry) }
 {
-    !((lines.len() == REGISTER_ROOM)
-        & (starts.len() == REGISTER_ROOM)
-        & (eols.len() == REGISTER_ROOM)
-        & (count <= REGISTER_ROOM))
+    !(register.lines.len() == REGISTER_ROOM
+        && register.starts.len() == REGISTER_ROOM
+        && register.eols.len() == REGISTER_ROOM
+        && register.count <= REGISTER_ROOM)
 }
 
 // 13, of an end.
+#[tactic(auto, unfolding(sourcepos::specs::LineEndCalls::bad_end))]
 fn bad_end(end: CellLineEnd) -> bool
     ensures { result ≡ bad_end end }
 {
-    (end.line == 0) | (end.start == 0) | (end.eol < end.start)
+    end.line == 0 || end.start == 0 || end.eol < end.start
 }
 
 // 2, of an end.
+#[tactic(auto, unfolding(sourcepos::specs::LineEndCalls::end_too_large))]
 fn end_too_large(end: CellLineEnd) -> bool
     ensures { result ≡ end_too_large end }
 {
-    (MAX_REGISTER < end.line) | (MAX_REGISTER < end.start) | (MAX_REGISTER < end.eol)
+    MAX_REGISTER < end.line || MAX_REGISTER < end.start || MAX_REGISTER < end.eol
 }
 
 fn write_end(lines: &mut [u32], starts: &mut [u32], eols: &mut [u32], i: usize, end: CellLineEnd)
     requires { (i < length lines.old) × (i < length starts.old) × (i < length eols.old) }
-    ensures { (lines.new ≡ set lines.old i end.line)
-        × (starts.new ≡ set starts.old i end.start)
-        × (eols.new ≡ set eols.old i end.eol) }
+    ensures line { lines.new ≡ set lines.old i end.line }
+    ensures start { starts.new ≡ set starts.old i end.start }
+    ensures eol { eols.new ≡ set eols.old i end.eol }
 {
     lines[i] = end.line;
     starts[i] = end.start;
     eols[i] = end.eol;
 }
 
-// Adds an end to the register.
+// Adds an end to the register, and says how many it now holds.
+#[tactic(auto, unfolding(sourcepos::specs::LineEndCalls::add_answer, sourcepos::specs::LineEndCalls::add_afterwards, sourcepos::specs::LineEndCalls::register_contradicts))]
 pub fn add(
     count: usize,
     lines: &mut [u32],
     starts: &mut [u32],
     eols: &mut [u32],
     end: CellLineEnd,
-) -> AddAnswer
-    ensures { let before = register count lines.old starts.old eols.old in
-        let after = register (count_after result count) lines.new starts.new eols.new in
-        (add_answer_of result ≡ add_answer before end) × (after ≡ add_afterwards before end) }
+) -> Result<usize, Refusal>
+    ensures answer { add_answer_of result ≡ add_answer (register count lines.old starts.old eols.old) end }
+    ensures register_after { let before = register count lines.old starts.old eols.old in
+        register (count_after result count) lines.new starts.new eols.new ≡ add_afterwards before end }
 {
-    if contradicts(count, lines, starts, eols) | bad_end(end) {
-        return AddAnswer::Refused {
-            number: 13,
-            place: 0,
-        };
+    let register = Register {
+        count,
+        lines,
+        starts,
+        eols,
+    };
+    if contradicts(register) || bad_end(end) {
+        return Err(Refusal::Contradiction);
     }
     if end_too_large(end) {
-        return AddAnswer::Refused {
-            number: 2,
-            place: 0,
-        };
+        return Err(Refusal::TooLarge);
     }
     if count == REGISTER_ROOM {
-        return AddAnswer::Refused {
-            number: 14,
-            place: 0,
-        };
+        return Err(Refusal::RegisterFull);
     }
     write_end(lines, starts, eols, count, end);
-    AddAnswer::Accepted(count + 1)
+    Ok(count + 1)
 }
 
-// Finds the line end at a line and column.
-pub fn find(
-    count: usize,
-    lines: &[u32],
-    starts: &[u32],
-    eols: &[u32],
-    line: u32,
-    column: u32,
-) -> FindAnswer
-    ensures { let given = register count lines.now starts.now eols.now in
-        find_answer_of result ≡ find_answer given line column }
+// The eol of the last end at a line and column, where one reaches there.
+#[tactic(auto, unfolding(sourcepos::specs::LineEnds::find_eol, sourcepos::specs::LineEndCalls::find_answer, sourcepos::specs::LineEndCalls::register_contradicts))]
+pub fn find(register: Register, line: u32, column: u32) -> Result<Option<u32>, Refusal>
+    ensures { find_answer_of result ≡ find_answer (register_of register.entry) line column }
 {
-    if contradicts(count, lines, starts, eols) | (line == 0) | (column == 0) {
-        return FindAnswer::Refused {
-            number: 13,
-            place: 0,
-        };
+    if contradicts(register) || line == 0 || column == 0 {
+        return Err(Refusal::Contradiction);
     }
-    if (MAX_REGISTER < line) | (MAX_REGISTER < column) {
-        return FindAnswer::Refused {
-            number: 2,
-            place: 0,
-        };
+    if MAX_REGISTER < line || MAX_REGISTER < column {
+        return Err(Refusal::TooLarge);
     }
-    let last = last_end(count, lines, starts, eols, line, column);
-    if last < count {
-        return FindAnswer::Found(eols[last]);
+    match last_end(register, line, column) {
+        Some(i) => Ok(Some(register.eols[i])),
+        None => Ok(None),
     }
-    FindAnswer::None
 }
 
 // Moves an end of a text that was made of fragments onto the fragment of its line, counted from 1.
-pub fn remap(count: usize, lines: &[u32], bytes: &[u32], end: CellLineEnd) -> RemapAnswer
+// The fragments' lines and bytes are two arrays and a count as the C interface lends them.
+#[tactic(auto, unfolding(sourcepos::specs::LineEnds::remap, sourcepos::specs::LineEndCalls::remap_answer, sourcepos::specs::LineEndCalls::bad_end, sourcepos::specs::LineEndCalls::end_too_large))]
+pub fn remap(
+    count: usize,
+    lines: &[u32],
+    bytes: &[u32],
+    end: CellLineEnd,
+) -> Result<CellLineEnd, Refusal>
     ensures { remap_answer_of result ≡ remap_answer count lines.now bytes.now end }
 {
-    let agree = (lines.len() == count) & (bytes.len() == count);
-    if !agree | bad_end(end) | (count < end.line as usize) {
-        return RemapAnswer::Refused {
-            number: 13,
-            place: 0,
-        };
+    let agree = lines.len() == count && bytes.len() == count;
+    if !agree || bad_end(end) || count < end.line as usize {
+        return Err(Refusal::Contradiction);
     }
     let at = end.line as usize - 1;
     let byte = bytes[at];
-    if end_too_large(end) | (MAX_REGISTER < byte) {
-        return RemapAnswer::Refused {
-            number: 2,
-            place: 0,
-        };
+    if end_too_large(end) || MAX_REGISTER < byte {
+        return Err(Refusal::TooLarge);
     }
     let moved = CellLineEnd {
         line: lines[at],
@@ -162,10 +139,7 @@ pub fn remap(count: usize, lines: &[u32], bytes: &[u32], end: CellLineEnd) -> Re
         eol: byte + end.eol,
     };
     if end_too_large(moved) {
-        return RemapAnswer::Refused {
-            number: 2,
-            place: 0,
-        };
+        return Err(Refusal::TooLarge);
     }
-    RemapAnswer::Accepted(moved)
+    Ok(moved)
 }

@@ -10,6 +10,8 @@ ghost use Rattle.writer.specs.Writing.{Wrote};
 ghost use Rattle.page_listing.specs.Inner.{InnerTold};
 
 use layout::cell_entries::write_cell;
+use representation::lent::Table;
+use table_checks::cell_entry::CellEntry;
 use writer::{copy, put};
 
 const MAX_BYTES: usize = 32768;
@@ -25,16 +27,12 @@ fn escape_byte(b: u8, out: &mut [u8], at: usize) -> usize
     requires { at ≤ 2147483648 }
     ensures { Wrote out.old at (escape_byte b) out.new result × (result ≤ at + 5) }
 {
-    if b == b'&' {
-        return copy(b"&amp;", out, at);
+    match b {
+        b'&' => copy(b"&amp;", out, at),
+        b'<' => copy(b"&lt;", out, at),
+        b'>' => copy(b"&gt;", out, at),
+        _ => put(b, out, at),
     }
-    if b == b'<' {
-        return copy(b"&lt;", out, at);
-    }
-    if b == b'>' {
-        return copy(b"&gt;", out, at);
-    }
-    put(b, out, at)
 }
 
 fn escape_line(line: &[u8], out: &mut [u8], at: usize) -> usize
@@ -42,10 +40,8 @@ fn escape_line(line: &[u8], out: &mut [u8], at: usize) -> usize
     ensures { Wrote out.old at (escape line.now) out.new result × (result ≤ at + 5 * length line.now) }
 {
     let mut end = at;
-    let mut i = 0;
-    while i < line.len() {
-        end = escape_byte(line[i], out, end);
-        i += 1;
+    for b in line {
+        end = escape_byte(*b, out, end);
     }
     end
 }
@@ -67,15 +63,13 @@ fn escape_lines(lengths: &[u16], text: &[u8], out: &mut [u8], at: usize) -> Esca
     ensures { let inner = inner_of (split_text lengths.now text.now) in
         Wrote out.old at inner out.new result.at × (result.at ≤ at + 278528) × (result.bytes ≡ sum lengths.now) }
 {
-    let mut i = 0;
     let mut used = 0;
     let mut end = at;
-    while i < lengths.len() {
-        let stop = used + lengths[i] as usize;
+    for (i, length) in lengths.iter().enumerate() {
+        let stop = used + *length as usize;
         let parted = break_before(i, out, end);
         end = escape_line(&text[used..stop], out, parted);
         used = stop;
-        i += 1;
     }
     Escaped {
         at: end,
@@ -85,43 +79,30 @@ fn escape_lines(lengths: &[u16], text: &[u8], out: &mut [u8], at: usize) -> Esca
 
 // The inner bytes of all cells back to back, and in `entries` each cell's row, column, colspan,
 // rowspan and the length of its inner bytes, until they pass the limit: how many there are.
-pub fn escape_cells(
-    n: usize,
-    cells: &[u16],
-    lengths: &[u16],
-    text: &[u8],
-    entries: &mut [u16],
-    inner: &mut [u8],
-) -> usize
-    requires n_bound { (n ≤ 1024) × (length cells.now ≡ 5 * n) × (sum (counts_in n cells.now) ≡ length lengths.now) }
-    requires lengths_len_bound { (length lengths.now ≤ 16384) × (length text.now ≤ 32768) × (sum lengths.now ≡ length text.now) }
-    requires n_in_bounds { (5 * n ≤ length entries.old) × (length inner.old ≡ 32768) }
-    ensures { let held = cells_of_array n cells.now (split_text lengths.now text.now) in
-        InnerTold held entries.new inner.new result }
+pub fn escape_cells(table: Table<'_>, entries: &mut [u16], inner: &mut [u8]) -> usize
+    requires cells { (table.cells ≤ 1024) × (length table.cell_entries.now ≡ 5 * table.cells)
+        × (sum (counts_in table.cells table.cell_entries.now) ≡ length table.lengths.now) }
+    requires lines { (length table.lengths.now ≤ 16384) × (length table.text.now ≤ 32768) × (sum table.lengths.now ≡ length table.text.now) }
+    requires room { (5 * table.cells ≤ length entries.old) × (length inner.old ≡ 32768) }
+    ensures { let t = table.entry in
+        InnerTold (cells_of_array t.cells t.cell_entries.now (split_text t.lengths.now t.text.now)) entries.new inner.new result }
 {
-    let mut k = 0;
     let mut line = 0;
     let mut used = 0;
     let mut end = 0;
-    while k < n {
-        let stop = line + cells[5 * k + 4] as usize;
-        let escaped = escape_lines(&lengths[line..stop], &text[used..], inner, end);
+    for k in 0..table.cells {
+        let cell = CellEntry::at(table.cell_entries, k);
+        let stop = line + cell.size as usize;
+        let escaped = escape_lines(&table.lengths[line..stop], &table.text[used..], inner, end);
         if MAX_BYTES < escaped.at {
             return escaped.at;
         }
-        write_cell(
-            cells[5 * k],
-            cells[5 * k + 1],
-            cells[5 * k + 2],
-            cells[5 * k + 3],
-            (escaped.at - end) as u16,
-            5 * k,
-            entries,
-        );
+        let size = (escaped.at - end) as u16;
+        let numbers = [cell.row, cell.column, cell.colspan, cell.rowspan, size];
+        write_cell(numbers, 5 * k, entries);
         line = stop;
         used += escaped.bytes;
         end = escaped.at;
-        k += 1;
     }
     end
 }

@@ -9,7 +9,7 @@ ghost use Rattle.html.specs.PageListing.{page_listing};
 ghost use Rattle.printing.specs.Printing.{Prints};
 
 use crate::lines::page_lines;
-use input_lines::{Split, split_lines};
+use input_lines::{Lines, split_lines};
 use printing::refused;
 
 // Writes the page of `input` at the start of `out` and counts the bytes. The longest has 32,768
@@ -22,12 +22,7 @@ pub fn print_page(widths: bool, input: &[u8], out: &mut [u8]) -> usize
     let mut lengths = [0u16; 128];
     let mut text = [0u8; 32768];
     match split_lines(input, &mut lengths, &mut text) {
-        Split::TooLarge => refused(2, 0, out),
-        Split::Lines { lines, bytes } => page_lines(
-            widths,
-            &lengths[0..lines],
-            &text[0..bytes],
-            out,
-        ),
+        Err(refusal) => refused(refusal.number(), refusal.place(), out),
+        Ok(Lines { lines, bytes }) => page_lines(widths, &lengths[0..lines], &text[0..bytes], out),
     }
 }

@@ -31,9 +31,9 @@ module _ (w : LayoutSpace) (starts : ℕ) (p : FlatPlaced) where
     go false true r = refl
     go false false r = refl
 
-  module _ {number place : ℕ} (e : placed_rects w starts p ≡ refuse number place) where
+  module _ {number place : ℕ} (e : refuse number place ≡ placed_rects w starts p) where
     layout-refused : placed_layout w starts p ≡ refuse number place
-    layout-refused = rw (layout-placed, e)
+    layout-refused = rw (layout-placed, ← e)
 
     pub positions-stopped : (out : PositionArrays) → (refuse number place ≡ positions_answer w starts p out) × (out ≡ positions_afterwards w starts p out)
     unfolding positions_answer positions_afterwards positions_accept

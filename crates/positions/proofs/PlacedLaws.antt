@@ -1,75 +1,81 @@
 -- What reading a drawing with its line and byte numbers leaves at each of its returns.
 use Prim.Native.Nat.{ℕ, ◌≤◌}
 use mathlib.Core.Path.{◌≡◌, refl, sym, ◌∙◌}
-use mathlib.Core.Bool.{Bool, true, false, cond}
+use mathlib.Core.Bool.{Bool, true, false, not, ◌&&◌, ◌||◌}
 use mathlib.Core.List.{List}
 use native.Mathlib.Omega.{arith}
+use lib.Dec.{eqb, ltb}
 use lib.ListN.{length}
-use borrow.Author.Tests.{ltb-false}
-use Rattle.seq.proofs.Tests.{or-neither}
+use borrow.Author.Tests.{ltb-false, eqb-true, not-false}
+use Rattle.seq.proofs.Tests.{and_left, and_right, or-neither}
 use Rattle.grid.specs.Limits.{max_lines, max_register}
-use Rattle.grid.specs.Answer.{Answer, refuse, refuse_if}
+use Rattle.grid.specs.Answer.{Answer, accept, refuse, refuse_if}
 use Rattle.grid.specs.Values.{Rect}
 use Rattle.grid.specs.Read.{read_rects}
-use Rattle.grid.specs.Flat.{FlatDrawing, lines_of}
-use Rattle.grid.specs.LayoutCall.{LayoutSpace, drawing}
+use Rattle.grid.specs.Flat.{FlatDrawing, drawing_contradicts, lines_of}
+use Rattle.grid.specs.LayoutCall.{LayoutSpace, space_short}
 use Rattle.representation.specs.LayoutParts.{rects_answer}
 use Rattle.reading.specs.Agreement.{any_over}
-use Rattle.reading.specs.Call.{SheetArrays, Reading}
-use Rattle.reading.specs.declared.Outcome.{Outcome}
 use Rattle.reading.proofs.limits.LimitLaws.{none-over-limit}
-use Rattle.reading.proofs.ReadingLaws.{refused-by}
 use Rattle.sourcepos.specs.PositionsCall.{FlatPlaced, placed, placed_contradicts, numbers_too_large}
 use Rattle.positions.specs.Needs.{PlacedSheet}
-use Rattle.positions.specs.Parts.{placed_number, placed_rects}
-use Rattle.positions.proofs.checks.CheckLaws.{placed_contradicts-passed, placed_contradicts-lengths, numbers_too_large-told}
+use Rattle.positions.specs.Parts.{placed_check, placed_rects}
+use Rattle.positions.proofs.checks.CheckLaws.{numbers-lengths, numbers_too_large-told, contradicts-told}
 
--- ---- a chain of two checks, as a number and as an answer
-number_passed : (a b : Bool) → ◌≡◌ {A = ℕ} (cond a 13 (cond b 2 0)) 0 → (a ≡ false) × (b ≡ false)
-number_passed true b e = absurd (omega arith)
-number_passed false true e = absurd (omega arith)
-number_passed false false e = (refl, refl)
+-- ---- a chain of two checks, and what comes after it
+passed_both : (a b : Bool) → ◌≡◌ {A = Answer (Unit {0})} (accept tt) (refuse_if a 13 (refuse_if b 2 (accept tt))) → (a ≡ false) × (b ≡ false)
+passed_both true b e = cc
+passed_both false true e = cc
+passed_both false false e = (refl, refl)
 
-number-stopped : (a b : Bool) (number : ℕ) (next : Answer (List Rect)) → number ≡ cond a 13 (cond b 2 0) → (number ≡ 0 → ⊥) → refuse_if a 13 (refuse_if b 2 next) ≡ refuse number 0
-number-stopped true b number next e nonzero = rw e
-number-stopped false true number next e nonzero = rw e
-number-stopped false false number next e nonzero = absurd (nonzero e)
+stopped : (a b : Bool) {number place : ℕ} (next : Answer (List Rect)) → ◌≡◌ {A = Answer (Unit {0})} (refuse number place) (refuse_if a 13 (refuse_if b 2 (accept tt)))
+    → refuse number place ≡ refuse_if a 13 (refuse_if b 2 next)
+stopped true b next e = cc
+stopped false true next e = cc
+stopped false false next e = cc
 
-module _ (w : LayoutSpace) (starts lines bytes : ℕ) (a : SheetArrays) (numbers table_bytes : List ℕ) (s : Outcome) (number : ℕ)
-    (told : number ≡ placed_number w starts (placed (drawing lines bytes a.lengths a.columns a.text) numbers table_bytes)) where
-  abbrev d : FlatDrawing
-  d = drawing lines bytes a.lengths a.columns a.text
-
+module _ (w : LayoutSpace) (starts : ℕ) (d : FlatDrawing) (numbers table_bytes : List ℕ) where
   abbrev given : FlatPlaced
   given = placed d numbers table_bytes
 
-  pub placed-refused : (number ≡ 0 → ⊥) → (s.number ≡ number) × (s.place ≡ 0) × (s.cells ≡ 0)
-      → Reading (placed_rects w starts given) a s × (s.number ≡ 0 → PlacedSheet a.lengths numbers table_bytes starts)
+  abbrev apart : Bool
+  apart = not (eqb (length numbers) d.lines && eqb (length table_bytes) d.lines)
+
+  pub placed-refused : {number place : ℕ} → refuse number place ≡ placed_check w starts given → refuse number place ≡ placed_rects w starts given
   unfolding placed_rects
-  placed-refused nonzero left = (
-    refused-by a s (number-stopped (placed_contradicts w starts given) (numbers_too_large given) number (read_rects (lines_of d)) told nonzero) nonzero left,
-    λ z. absurd (nonzero (sym left.0 ∙ z)),
-  )
+  placed-refused e = stopped (placed_contradicts w starts given) (numbers_too_large given) (read_rects (lines_of d)) e
 
-  module _ (complete : number ≡ 0) where
+  module _ (complete : accept tt ≡ placed_check w starts given) where
     passed : (placed_contradicts w starts given ≡ false) × (numbers_too_large given ≡ false)
-    passed = number_passed (placed_contradicts w starts given) (numbers_too_large given) (sym told ∙ complete)
+    passed = passed_both (placed_contradicts w starts given) (numbers_too_large given) complete
 
-    same-rects : placed_rects w starts given ≡ rects_answer w d
+    spaced : (drawing_contradicts d || space_short w || ltb starts max_lines ≡ false) × (apart ≡ false)
+    spaced = or-neither (drawing_contradicts d || space_short w || ltb starts max_lines) apart (sym (contradicts-told w starts d numbers table_bytes) ∙ passed.0)
+
+    roomy : (drawing_contradicts d || space_short w ≡ false) × (ltb starts max_lines ≡ false)
+    roomy = or-neither (drawing_contradicts d || space_short w) (ltb starts max_lines) spaced.0
+
+    agree : (drawing_contradicts d ≡ false) × (space_short w ≡ false)
+    agree = or-neither (drawing_contradicts d) (space_short w) roomy.0
+
+    numbered : (length numbers ≡ d.lines) × (length table_bytes ≡ d.lines)
+    numbered =
+        let both = not-false (eqb (length numbers) d.lines && eqb (length table_bytes) d.lines) spaced.1 in (
+          eqb-true (length numbers) d.lines (and_left (eqb (length numbers) d.lines) (eqb (length table_bytes) d.lines) both),
+          eqb-true (length table_bytes) d.lines (and_right (eqb (length numbers) d.lines) (eqb (length table_bytes) d.lines) both),
+        )
+
+    pub same-rects : rects_answer w d ≡ placed_rects w starts given
     unfolding placed_rects rects_answer
-    same-rects = rw (passed.0, passed.1, (placed_contradicts-passed w starts lines bytes a.lengths a.columns a.text numbers table_bytes passed.0).0)
+    same-rects = rw (passed.0, passed.1, agree.0, agree.1)
 
-    sheet : length a.lengths ≤ max_lines → PlacedSheet a.lengths numbers table_bytes starts
-    sheet few =
-        let agree = placed_contradicts-lengths w starts lines bytes a.lengths a.columns a.text numbers table_bytes passed.0 in
-        let over = numbers_too_large-told w starts lines bytes a.lengths a.columns a.text numbers table_bytes passed.0 in
+    pub placed-sheet : length d.lengths ≤ max_lines → PlacedSheet d.lengths numbers table_bytes starts
+    placed-sheet few =
+        let lengths = numbers-lengths d numbers table_bytes agree.0 numbered.0 numbered.1 in
+        let over = numbers_too_large-told d numbers table_bytes agree.0 numbered.0 numbered.1 in
         let low = or-neither (any_over max_register numbers) (any_over max_register table_bytes) (sym over ∙ passed.1) in
         record {
-          numbered = record { few = omega (arith, agree); agree = omega (arith, agree); low = none-over-limit max_register table_bytes low.1 };
-          agree = agree.0;
-          start_room = ltb-false starts max_lines (placed_contradicts-passed w starts lines bytes a.lengths a.columns a.text numbers table_bytes passed.0).1;
+          numbered = record { few = omega (arith, lengths); agree = omega (arith, lengths); low = none-over-limit max_register table_bytes low.1 };
+          agree = lengths.0;
+          start_room = ltb-false starts max_lines roomy.1;
         }
-
-    pub placed-read : Reading (rects_answer w d) a s
-        → Reading (placed_rects w starts given) a s × (s.number ≡ 0 → PlacedSheet a.lengths numbers table_bytes starts)
-    placed-read r = (rw same-rects r, λ z. sheet (r.traced z).sheet.few_lines)

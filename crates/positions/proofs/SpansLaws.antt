@@ -11,7 +11,7 @@ use Rattle.grid.specs.Slots.{Grid, grid_of}
 use Rattle.grid.specs.Layout.{Between, between, row_lines, section_at, rows_read, cell_read, layout_of}
 use Rattle.grid.specs.Flat.{shorter}
 use Rattle.grid.specs.TableCall.{no_cell}
-use Rattle.grid.proofs.LayoutLaws.{row_lines-rise, length-between}
+use Rattle.grid.proofs.LayoutLaws.{length-between}
 use Rattle.grid.proofs.SizeLaws.{rows-count}
 use Rattle.representation.specs.Arrays.{rect_in}
 use Rattle.representation.specs.Edges.{row_lines_below}
@@ -19,18 +19,16 @@ use Rattle.representation.specs.LayoutEntries.{Inside}
 use Rattle.representation.proofs.RectsLaws.{length-rects}
 use Rattle.representation.proofs.HeldLaws.{rect-holds}
 use Rattle.reading.specs.Call.{SheetArrays, lines_in, rects_in, TracedSheet}
-use Rattle.reading.specs.declared.Outcome.{Outcome}
-use Rattle.reading.proofs.SheetLaws.{traced-height, traced-width, traced-room, traced-edges, traced-laid, traced-cover, traced-some}
-use Rattle.layout.proofs.FinishNeeds.{row_lines-some}
+use Rattle.reading.specs.declared.Reading.{Reading}
+use Rattle.reading.proofs.SheetLaws.{traced-height, traced-width, traced-laid, traced-cover}
 use Rattle.cell.proofs.CallLaws.{cell-here}
 use Rattle.sourcepos.specs.Positions.{Placed, row_position, cell_position}
 use Rattle.sourcepos.specs.PositionsCall.{four_numbers, PositionArrays, position_arrays}
-use Rattle.positions.specs.Spans.{placed_drawing, lines_between, row_spans, rect_span, rect_spans}
-use Rattle.positions.specs.Needs.{PlacedSheet, PlacedCells, RowsAndCells}
+use Rattle.positions.specs.Spans.{placed_lines, lines_between, row_spans, rect_span, rect_spans}
 use Rattle.positions.specs.Parts.{spans_short}
 use Rattle.positions.proofs.CellLaws.{cell_position-span}
 
-module _ {a : SheetArrays} {o : Outcome} (t : TracedSheet a o) (numbers table_bytes : List ℕ) where
+module _ {a : SheetArrays} {o : Reading} (t : TracedSheet a o) (numbers table_bytes : List ℕ) where
   abbrev g : Grid
   g = grid_of (lines_in a)
 
@@ -41,7 +39,7 @@ module _ {a : SheetArrays} {o : Outcome} (t : TracedSheet a o) (numbers table_by
   rows = row_lines_below (length a.lengths) rs
 
   abbrev drawn : Placed
-  drawn = placed_drawing numbers table_bytes a.lengths a.text a.columns
+  drawn = placed_lines numbers table_bytes (lines_in a)
 
   rows_same : row_lines g rs ≡ rows
   unfolding row_lines
@@ -84,40 +82,14 @@ module _ {a : SheetArrays} {o : Outcome} (t : TracedSheet a o) (numbers table_by
       rw (cell-here a o t [] k h)
       (rect-holds (λ r. cell_position drawn (layout_of (lines_in a) g rs) (cell_read g rs r) ≡ rect_span drawn a.offsets r) a.rects o.cells k h (λ r m. rect_span-told m))
 
-  -- ---- what the last parts ask
-  module _ {starts : ℕ} (s : PlacedSheet a.lengths numbers table_bytes starts) where
-    inside : (r : Rect) → Memᴰ r rs → Inside (length numbers) 128 r
-    inside r m =
-        let i = (traced-laid a o t).inside r m in
-        record {
-          down = i.down;
-          across = i.across;
-          tall = omega (arith, i.tall, traced-height a o t, s.agree);
-          wide = omega (arith, i.wide, traced-width a o t, t.roomy.width_fits);
-        }
-
-    pub placed-cells : PlacedCells numbers table_bytes a.offsets a.rects o.cells
-    placed-cells =
-        record {
-          numbered = s.numbered;
-          few = t.through.few;
-          rect_room = traced-room a o t;
-          offset_room = t.roomy.offset_room;
-          inside = inside;
-        }
-
-    pub placed-rows-and-cells : RowsAndCells a.lengths a.text numbers table_bytes a.offsets a.rects o.cells starts
-    placed-rows-and-cells =
-        record {
-          cells = placed-cells;
-          agree = s.agree;
-          bytes_agree = t.sheet.bytes_agree;
-          few_bytes = t.few_bytes;
-          short_lines = t.sheet.short_lines;
-          some_line = traced-some a o t;
-          few_lines = t.sheet.few_lines;
-          start_room = s.start_room;
-          small = traced-edges a o t;
-          some_row = row_lines-some t;
-          rising = rw rows_same at (row_lines-rise g rs);
-        }
+-- its rectangles lie in the lines that are numbered
+pub placed-inside : {a : SheetArrays} {o : Reading} (t : TracedSheet a o) (numbers : List ℕ) → length numbers ≡ length a.lengths
+    → (r : Rect) → Memᴰ r (rects_in a o.cells) → Inside (length numbers) 128 r
+placed-inside {a} {o} t numbers agree r m =
+    let i = (traced-laid a o t).inside r m in
+    record {
+      down = i.down;
+      across = i.across;
+      tall = omega (arith, i.tall, traced-height a o t, agree);
+      wide = omega (arith, i.wide, traced-width a o t, t.roomy.width_fits);
+    }

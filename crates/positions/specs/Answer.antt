@@ -1,18 +1,19 @@
--- The answers of the positions calls, in the terms of the definitions.
-use Rattle.grid.specs.Answer.{Answer, accept, refuse}
+-- The answers of the positions calls, in the terms of the definitions: document 01's number, place and values for each case.
+use Rattle.std.specs.Prelude.{Result}
+use Rattle.grid.specs.Answer.{Answer}
+use Rattle.refusals.specs.declared.Refusal.{Refusal}
+use Rattle.refusals.specs.Refusal.{answer_from}
 use Rattle.sourcepos.specs.Positions.{Sourcepos}
-use Rattle.sourcepos.specs.PositionsCall.{PositionsFound}
+use Rattle.sourcepos.specs.PositionsCall as calls
 use Rattle.positions.specs.Spans.{sourcepos_of}
-use Rattle.positions.specs.declared.PositionsAnswer.{PositionsAnswer}
-use Rattle.positions.specs.declared.PositionsAnswer.TheVariants.{Accepted, Refused}
-use Rattle.positions.specs.declared.CellPositionAnswer.{CellPositionAnswer}
-use Rattle.positions.specs.declared.CellPositionAnswer.TheVariants.{Accepted as Found, Refused as Unfound}
+use Rattle.positions.specs.declared.span.Sourcepos.{Sourcepos as Span}
+use Rattle.positions.specs.declared.PositionsFound.{PositionsFound}
 
--- document 01's number, place and values for each case of the answers
-abbrev pub positions_of : PositionsAnswer → Answer PositionsFound
-positions_of (Accepted table rows cells) = accept (record { table = sourcepos_of table; rows = rows; cells = cells })
-positions_of (Refused number place) = refuse number place
+abbrev pub positions_found : PositionsFound → calls.PositionsFound
+positions_found p = record { table = sourcepos_of p.table; rows = p.rows; cells = p.cells }
 
-abbrev pub cell_position_of : CellPositionAnswer → Answer Sourcepos
-cell_position_of (Found position) = accept (sourcepos_of position)
-cell_position_of (Unfound number place) = refuse number place
+abbrev pub positions_of : Result PositionsFound Refusal → Answer calls.PositionsFound
+positions_of result = answer_from positions_found result
+
+abbrev pub cell_position_of : Result Span Refusal → Answer Sourcepos
+cell_position_of result = answer_from sourcepos_of result

@@ -1,4 +1,5 @@
 pub mod Spans
 pub mod Parts
 pub mod Needs
+pub mod Lent
 pub mod Answer

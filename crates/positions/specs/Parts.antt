@@ -10,9 +10,9 @@ use Rattle.sourcepos.specs.Positions.{Sourcepos, Placed, table_position}
 use Rattle.sourcepos.specs.PositionsCall.{FlatPlaced, placed_contradicts, numbers_too_large, PositionArrays, positions_lent, PositionsFound}
 use Rattle.positions.specs.Spans.{row_spans, rect_span, rect_spans}
 
--- 13, then 2 for line and byte numbers; 0 where reading goes on
-abbrev pub placed_number : LayoutSpace → ℕ → FlatPlaced → ℕ
-placed_number w starts p = cond (placed_contradicts w starts p) 13 (cond (numbers_too_large p) 2 0)
+-- 13, then 2 for line and byte numbers
+abbrev pub placed_check : LayoutSpace → ℕ → FlatPlaced → Answer (Unit {0})
+placed_check w starts p = refuse_if (placed_contradicts w starts p) 13 (refuse_if (numbers_too_large p) 2 (accept tt))
 
 unfoldable pub placed_rects : LayoutSpace → ℕ → FlatPlaced → Answer (List Rect)
 placed_rects w starts p =

@@ -3,7 +3,6 @@ use Rattle.std.specs.Prelude.{ℕ, ◌+◌, ◌-◌, cond, ltb}
 use mathlib.Core.List.{List, flat_map}
 use Rattle.grid.specs.Values.{Line, Rect}
 use Rattle.grid.specs.Layout.{Between, between}
-use Rattle.grid.specs.Flat.{lines_from}
 use Rattle.representation.specs.Arrays.{code_at}
 use Rattle.sourcepos.specs.Positions.{Sourcepos, Placed, number_at, table_byte_at, whole_lines, no_lines}
 use Rattle.sourcepos.specs.PositionsCall.{four_numbers}
@@ -17,10 +16,6 @@ sourcepos_of s =
 -- lines with their numbers and table bytes
 abbrev pub placed_lines : List ℕ → List ℕ → List Line → Placed
 placed_lines numbers table_bytes lines = record { lines = lines; numbers = numbers; table_bytes = table_bytes }
-
--- the lines of a drawing's arrays, with these columns
-abbrev pub placed_drawing : List ℕ → List ℕ → List ℕ → List ℕ → List ℕ → Placed
-placed_drawing numbers table_bytes lengths text columns = placed_lines numbers table_bytes (lines_from lengths columns text)
 
 -- a row lies between two border lines
 abbrev pub lines_between : Placed → ℕ → ℕ → Sourcepos

@@ -1,86 +1,62 @@
 // The positions of cells, from their rectangles.
-ghost use Rattle.std.specs.Prelude.{◌*◌, ◌≤◌, ◌≡◌, length};
-ghost use mathlib.Core.List.{List, Memᴰ};
-ghost use Rattle.grid.specs.Answer.{over};
-ghost use Rattle.grid.specs.Values.{Line, Rect};
+ghost use Rattle.std.specs.Prelude.{◌≤◌, length};
 ghost use Rattle.grid.specs.LayoutCall.{slot_space};
-ghost use Rattle.representation.specs.Arrays.{rects_of};
-ghost use Rattle.representation.specs.LayoutEntries.{Inside};
-ghost use Rattle.positions.specs.Spans.{sourcepos_of, placed_lines, rect_span, rect_spans};
-ghost use Rattle.positions.specs.Needs.{NumberedLines};
 
-use crate::span::{Sourcepos, no_lines, source_byte, write_sourcepos};
+use crate::lines::NumberedLines;
+use crate::span::Sourcepos;
+use representation::rect::Rect;
+use representation::rects::Rects;
 use slots::map::byte_at;
-use text::{ByteAt, Column};
+use text::ByteAt;
 
-// The cell inside a rectangle.
-pub fn rect_position(
-    numbers: &[u32],
-    table_bytes: &[u32],
-    offsets: &[u16],
-    top: usize,
-    left: Column,
-    bottom: usize,
-    right: Column,
-) -> Sourcepos
-    requires numbered_lines { NumberedLines numbers.now table_bytes.now × (slot_space ≤ length offsets.now) }
-    requires fact { let rect : Rect = record { top = top; left = left.0; bottom = bottom; right = right.0 } in
-        Inside (length numbers.now) 128 rect }
-    ensures { let rect : Rect = record { top = top; left = left.0; bottom = bottom; right = right.0 } in
-        let placed = placed_lines numbers.now table_bytes.now in
-        ((lines : List Line) → sourcepos_of result ≡ rect_span (placed lines) offsets.now rect) }
-{
-    let first = top + 1;
-    if bottom <= first {
-        return no_lines(numbers, table_bytes, top);
-    }
-    let last = bottom - 1;
-    let start = ByteAt(byte_at(offsets, first, left).0 + 1);
-    let end = byte_at(offsets, last, right);
-    let start_column = source_byte(table_bytes[first], start) + 1;
-    let end_column = source_byte(table_bytes[last], end);
-    let start_line = numbers[first];
-    let end_line = numbers[last];
-    Sourcepos {
-        start_line,
-        start_column,
-        end_line,
-        end_column,
-    }
+// Lines with their numbers and table bytes, and the byte of each of their slots.
+#[derive(Clone, Copy)]
+pub struct PlacedSlots<'a, 'l> {
+    pub lines: NumberedLines<'l>,
+    pub offsets: &'a [u16],
+    pub ghost room: { slot_space ≤ length offsets.now },
 }
 
-// The positions of all cells.
-pub fn write_cells(
-    numbers: &[u32],
-    table_bytes: &[u32],
-    offsets: &[u16],
-    rects: &[u8],
-    n: usize,
-    out: &mut [u32],
-)
-    requires numbered_lines { NumberedLines numbers.now table_bytes.now × (slot_space ≤ length offsets.now) }
-    requires n_bound { (n ≤ 1024) × (4 * n ≤ length rects.now) × (4 * n ≤ length out.old) }
-    requires inside { (r : Rect) → Memᴰ r (rects_of n rects.now) → Inside (length numbers.now) 128 r }
-    ensures { let rs = rects_of n rects.now in
-        let placed = placed_lines numbers.now table_bytes.now in
-        ((lines : List Line) → out.new ≡ over (rect_spans (placed lines) offsets.now rs) out.old) }
-{
-    let mut k = 0;
-    while k < n {
-        let top = rects[4 * k] as usize;
-        let left = rects[4 * k + 1] as usize;
-        let bottom = rects[4 * k + 2] as usize;
-        let right = rects[4 * k + 3] as usize;
-        let position = rect_position(
-            numbers,
-            table_bytes,
-            offsets,
-            top,
-            Column(left),
-            bottom,
-            Column(right),
-        );
-        write_sourcepos(position, 4 * k, out);
-        k += 1;
+impl PlacedSlots<'_, '_> {
+    ghost use Rattle.std.specs.Prelude.{◌*◌, ◌≡◌};
+    ghost use mathlib.Core.List.{List, Memᴰ};
+    ghost use Rattle.grid.specs.Answer.{over};
+    ghost use Rattle.grid.specs.Values as grid;
+    ghost use Rattle.representation.specs.Lent.{rect_of};
+    ghost use Rattle.representation.specs.LayoutEntries.{Inside};
+    ghost use Rattle.representation.specs.Traced.{rects_held};
+    ghost use Rattle.positions.specs.Spans.{sourcepos_of, rect_span, rect_spans};
+    ghost use Rattle.positions.specs.Lent.{placed_by};
+
+    // The cell inside a rectangle.
+    pub fn position(&self, rect: Rect) -> Sourcepos
+        requires { Inside (length self.now.lines.numbers.now) 128 (rect_of rect) }
+        ensures { (lines : List grid.Line) → sourcepos_of result ≡ rect_span (placed_by self.now.lines lines) self.now.offsets.now (rect_of rect) }
+    {
+        let first = rect.top + 1;
+        if rect.bottom <= first {
+            return self.lines.no_lines(rect.top);
+        }
+        let last = rect.bottom - 1;
+        let start = byte_at(self.offsets, first, rect.left).0 + 1;
+        let end = byte_at(self.offsets, last, rect.right);
+        Sourcepos {
+            start_line: self.lines.numbers[first],
+            start_column: self.lines.source_byte(first, ByteAt(start)) + 1,
+            end_line: self.lines.numbers[last],
+            end_column: self.lines.source_byte(last, end),
+        }
+    }
+
+    // The positions of all cells.
+    pub fn write_cells(&self, rects: Rects<'_>, out: &mut [u32])
+        requires inside { (r : grid.Rect) → Memᴰ r (rects_held rects) → Inside (length self.now.lines.numbers.now) 128 r }
+        requires room { 4 * rects.count ≤ length out.old }
+        ensures { let rs = rects_held rects.entry in
+            ((lines : List grid.Line) → out.new ≡ over (rect_spans (placed_by self.now.lines lines) self.now.offsets.now rs) out.old) }
+    {
+        for k in 0..rects.count {
+            self.position(rects.at(k)).write(4 * k, out);
+        }
     }
 }

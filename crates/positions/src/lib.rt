@@ -3,58 +3,48 @@
 
 pub mod cells;
 pub mod checks;
+pub mod lines;
 pub mod rows;
 pub mod span;
 
-ghost use Rattle.std.specs.Prelude.{◌≡◌, List, ℕ, length};
-ghost use Rattle.grid.specs.Values.{Line};
-ghost use Rattle.grid.specs.LayoutCall.{spaces, drawing};
-ghost use Rattle.representation.specs.Arrays.{rects_of};
+ghost use Rattle.std.specs.Prelude.{◌≡◌, ◌≤◌, length, IfOk};
+ghost use Rattle.grid.specs.Limits.{max_lines};
+ghost use Rattle.grid.specs.LayoutCall.{spaces};
+ghost use Rattle.refusals.specs.Refusal.{answer_from};
 ghost use Rattle.representation.specs.Edges.{row_lines_below};
-ghost use Rattle.reading.specs.Call.{sheet_of, Reading};
+ghost use Rattle.representation.specs.Lent.{drawing_of};
+ghost use Rattle.reading.specs.Call.{sheet_of, lines_in, rects_in, TracedSheet};
+ghost use Rattle.reading.specs.Sheets.{arrays_in};
 ghost use Rattle.sourcepos.specs.PositionsCall.{placed, positions_lent, positions_answer, positions_afterwards, cell_position_answer};
-ghost use Rattle.positions.specs.Spans.{placed_lines, placed_drawing};
-ghost use Rattle.positions.specs.Needs.{PlacedSheet, PlacedCells, RowsAndCells};
+ghost use Rattle.positions.specs.Lent.{placed_by};
+ghost use Rattle.positions.specs.Needs.{PlacedSheet};
 ghost use Rattle.positions.specs.Parts.{placed_rects, spans_found, spans_written, span_at};
 ghost use Rattle.positions.specs.Answer.{positions_of, cell_position_of};
 
-use crate::cells::{rect_position, write_cells};
-use crate::checks::placed_number;
-use crate::rows::{whole_lines, write_rows};
+use crate::cells::PlacedSlots;
+use crate::checks::check_placed;
+use crate::lines::NumberedLines;
+use crate::rows::StartedLines;
 use crate::span::Sourcepos;
 use cell::pieces::line_starts;
 use layout::bounds::row_bounds;
-use reading::{Outcome, read, refusal};
-use text::Column;
+use reading::{Reading, TracedDrawing, read};
+use refusals::Refusal;
+use representation::lent::Drawing;
+use representation::rect::Rect;
+use representation::rects::Rects;
 
-// The table's position, and how many rows and cells were written; or a refusal.
-#[derive(Clone, Copy)]
-pub enum PositionsAnswer {
-    Accepted {
-        table: Sourcepos,
-        rows: usize,
-        cells: usize,
-    },
-    Refused {
-        number: usize,
-        place: usize,
-    },
-}
-
-// The cell's position; or a refusal.
-#[derive(Clone, Copy)]
-pub enum CellPositionAnswer {
-    Accepted(Sourcepos),
-    Refused { number: usize, place: usize },
+// The table's position, and how many rows and cells were written.
+#[derive(Clone, Copy, Debug, PartialEq, Eq)]
+pub struct PositionsFound {
+    pub table: Sourcepos,
+    pub rows: usize,
+    pub cells: usize,
 }
 
 // A drawing with its line and byte numbers, read up to its rectangles.
 fn read_placed(
-    lines: usize,
-    bytes: usize,
-    lengths: &[u16],
-    columns: &[u16],
-    text: &[u8],
+    drawing: Drawing<'_>,
     numbers: &[u32],
     table_bytes: &[u32],
     glyphs: &mut [u8],
@@ -63,21 +53,16 @@ fn read_placed(
     right: &mut [u8],
     rects: &mut [u8],
     starts: usize,
-) -> Outcome
-    ensures { let space = spaces glyphs.old offsets.old down.old right.old rects.old in
-        let given = drawing lines bytes lengths.now columns.now text.now in
-        let answer = placed_rects space starts (placed given numbers.now table_bytes.now) in
-        let left =
-        sheet_of lengths.now columns.now text.now glyphs.new offsets.new rects.new in
-        Reading answer left result
-        × (result.number ≡ 0 → PlacedSheet lengths.now numbers.now table_bytes.now starts) }
+) -> Result<Reading, Refusal>
+    ensures answer { let space = spaces glyphs.old offsets.old down.old right.old rects.old in
+        let left = sheet_of (drawing_of drawing.entry) glyphs.new offsets.new rects.new in
+        answer_from (λ (s : _). rects_in left s.cells) result ≡ placed_rects space starts (placed (drawing_of drawing.entry) numbers.now table_bytes.now) }
+    ensures traced { let left = sheet_of (drawing_of drawing.entry) glyphs.new offsets.new rects.new in
+        IfOk result (λ s. TracedSheet left s) }
+    ensures numbered { IfOk result (λ _. PlacedSheet drawing.entry.lengths.now numbers.now table_bytes.now starts) }
 {
-    let number = placed_number(
-        lines,
-        bytes,
-        lengths,
-        columns,
-        text,
+    check_placed(
+        drawing,
         numbers,
         table_bytes,
         glyphs.len(),
@@ -86,111 +71,66 @@ fn read_placed(
         right.len(),
         rects.len(),
         starts,
-    );
-    if number != 0 {
-        return refusal(number, 0);
-    }
-    read(
-        lines, bytes, lengths, columns, text, glyphs, offsets, down, right, rects,
-    )
+    )?;
+    read(drawing, glyphs, offsets, down, right, rects)
 }
 
-// From n traced rectangles to the positions. `starts` is working space.
+// From the traced rectangles to the positions. `starts` is working space.
 fn finish(
-    lengths: &[u16],
-    text: &[u8],
-    numbers: &[u32],
-    table_bytes: &[u32],
-    offsets: &[u16],
-    rects: &[u8],
-    n: usize,
+    traced: TracedDrawing<'_>,
+    lines: NumberedLines<'_>,
     starts: &mut [u16],
     row_positions: &mut [u32],
     cell_positions: &mut [u32],
-) -> PositionsAnswer
-    requires { RowsAndCells lengths.now text.now numbers.now table_bytes.now offsets.now rects.now n (length starts.old) }
-    ensures { let before = positions_lent row_positions.old cell_positions.old in
-        let after = positions_lent row_positions.new cell_positions.new in
-        let rs = rects_of n rects.now in
-        let rows = row_lines_below (length lengths.now) rs in
-        let drawn = placed_drawing numbers.now table_bytes.now lengths.now text.now in
-        ((columns : List ℕ) → (positions_of result ≡ spans_found (drawn columns) rows n before)
-        × (after ≡ spans_written (drawn columns) offsets.now rows rs before)) }
+) -> Result<PositionsFound, Refusal>
+    requires room { max_lines ≤ length starts.old }
+    requires agree { length lines.numbers.now ≡ length traced.drawing.lengths.now }
+    ensures answer { let sheet = arrays_in traced.entry in
+        let rows = row_lines_below (length sheet.lengths) (rects_in sheet traced.entry.reading.cells) in
+        positions_of result ≡ spans_found (placed_by lines.entry (lines_in sheet)) rows traced.entry.reading.cells (positions_lent row_positions.old cell_positions.old) }
+    ensures written { let sheet = arrays_in traced.entry in
+        let rs = rects_in sheet traced.entry.reading.cells in
+        positions_lent row_positions.new cell_positions.new
+        ≡ spans_written (placed_by lines.entry (lines_in sheet)) sheet.offsets (row_lines_below (length sheet.lengths) rs) rs (positions_lent row_positions.old cell_positions.old) }
 {
+    let lengths = traced.drawing.lengths;
+    let text = traced.drawing.text;
+    let offsets = traced.offsets;
     let height = lengths.len();
-    let tops = row_bounds(rects, n, height);
-    let rows = tops.count - 1;
-    if (row_positions.len() < 4 * rows) | (cell_positions.len() < 4 * n) {
-        return PositionsAnswer::Refused {
-            number: 12,
-            place: 0,
-        };
+    let rects = Rects {
+        array: traced.rects,
+        count: traced.reading.cells,
+    };
+    let tops = row_bounds(rects, height);
+    let rows = tops.bands();
+    if row_positions.len() < 4 * rows || cell_positions.len() < 4 * rects.count {
+        return Err(Refusal::OutputShort);
     }
     line_starts(lengths, starts);
-    write_rows(
+    let started = StartedLines {
         lengths,
         text,
         starts,
-        numbers,
-        table_bytes,
-        tops,
-        row_positions,
-    );
-    write_cells(numbers, table_bytes, offsets, rects, n, cell_positions);
-    let table = whole_lines(lengths, text, starts, numbers, table_bytes, 0, height - 1);
-    PositionsAnswer::Accepted {
-        table,
+        lines,
+    };
+    started.write_rows(tops, row_positions);
+    let slots = PlacedSlots { lines, offsets };
+    slots.write_cells(rects, cell_positions);
+    Ok(PositionsFound {
+        table: started.whole(0, height - 1),
         rows,
-        cells: n,
-    }
-}
-
-// The position of cell k of n traced rectangles.
-fn finish_cell(
-    numbers: &[u32],
-    table_bytes: &[u32],
-    offsets: &[u16],
-    rects: &[u8],
-    n: usize,
-    k: usize,
-) -> CellPositionAnswer
-    requires { PlacedCells numbers.now table_bytes.now offsets.now rects.now n }
-    ensures { let placed = placed_lines numbers.now table_bytes.now in
-        ((lines : List Line) → cell_position_of result ≡ span_at (placed lines) offsets.now rects.now n k) }
-{
-    if n <= k {
-        return CellPositionAnswer::Refused {
-            number: 13,
-            place: 0,
-        };
-    }
-    let top = rects[4 * k] as usize;
-    let left = rects[4 * k + 1] as usize;
-    let bottom = rects[4 * k + 2] as usize;
-    let right = rects[4 * k + 3] as usize;
-    CellPositionAnswer::Accepted(rect_position(
-        numbers,
-        table_bytes,
-        offsets,
-        top,
-        Column(left),
-        bottom,
-        Column(right),
-    ))
+        cells: rects.count,
+    })
 }
 
 // The positions of a drawing's table, given each line's number and the byte at which the table
 // starts in it: the table's, and for each row and each cell four numbers (start line, start column,
 // end line, end column). Working space: glyphs, offsets, down and right of 16,384 entries each,
 // rects of 4,096, starts of 128.
-pub fn positions(
-    lines: usize,
-    bytes: usize,
-    lengths: &[u16],
-    columns: &[u16],
-    text: &[u8],
-    numbers: &[u32],
-    table_bytes: &[u32],
+pub fn positions<'l>(
+    drawing: Drawing<'_>,
+    numbers: &'l [u32],
+    table_bytes: &'l [u32],
     glyphs: &mut [u8],
     offsets: &mut [u16],
     down: &mut [u8],
@@ -199,21 +139,17 @@ pub fn positions(
     starts: &mut [u16],
     row_positions: &mut [u32],
     cell_positions: &mut [u32],
-) -> PositionsAnswer
+) -> Result<PositionsFound, Refusal>
     ensures { let space = spaces glyphs.old offsets.old down.old right.old rects.old in
-        let given = drawing lines bytes lengths.now columns.now text.now in
-        let lines = placed given numbers.now table_bytes.now in
+        let lines = placed (drawing_of drawing.entry) numbers.now table_bytes.now in
         let before = positions_lent row_positions.old cell_positions.old in
         let after = positions_lent row_positions.new cell_positions.new in
         (positions_of result ≡ positions_answer space (length starts.old) lines before)
         × (after ≡ positions_afterwards space (length starts.old) lines before) }
 {
-    let outcome = read_placed(
-        lines,
-        bytes,
-        lengths,
-        columns,
-        text,
+    let room = starts.len();
+    let reading = read_placed(
+        drawing,
         numbers,
         table_bytes,
         glyphs,
@@ -221,37 +157,27 @@ pub fn positions(
         down,
         right,
         rects,
-        starts.len(),
-    );
-    if outcome.number != 0 {
-        return PositionsAnswer::Refused {
-            number: outcome.number,
-            place: outcome.place,
-        };
-    }
-    finish(
-        lengths,
-        text,
-        numbers,
-        table_bytes,
+        room,
+    )?;
+    let traced = TracedDrawing {
+        drawing,
+        glyphs,
         offsets,
         rects,
-        outcome.cells,
-        starts,
-        row_positions,
-        cell_positions,
-    )
+        reading,
+    };
+    let lines = NumberedLines {
+        numbers,
+        table_bytes,
+    };
+    finish(traced, lines, starts, row_positions, cell_positions)
 }
 
 // The position of cell k of a drawing's table. Working space as for the positions of all.
-pub fn cell_position(
-    lines: usize,
-    bytes: usize,
-    lengths: &[u16],
-    columns: &[u16],
-    text: &[u8],
-    numbers: &[u32],
-    table_bytes: &[u32],
+pub fn cell_position<'l>(
+    drawing: Drawing<'_>,
+    numbers: &'l [u32],
+    table_bytes: &'l [u32],
     glyphs: &mut [u8],
     offsets: &mut [u16],
     down: &mut [u8],
@@ -259,18 +185,14 @@ pub fn cell_position(
     rects: &mut [u8],
     starts: &mut [u16],
     k: usize,
-) -> CellPositionAnswer
+) -> Result<Sourcepos, Refusal>
     ensures { let space = spaces glyphs.old offsets.old down.old right.old rects.old in
-        let given = drawing lines bytes lengths.now columns.now text.now in
-        let lines = placed given numbers.now table_bytes.now in
+        let lines = placed (drawing_of drawing.entry) numbers.now table_bytes.now in
         cell_position_of result ≡ cell_position_answer space (length starts.old) lines k }
 {
-    let outcome = read_placed(
-        lines,
-        bytes,
-        lengths,
-        columns,
-        text,
+    let room = starts.len();
+    let reading = read_placed(
+        drawing,
         numbers,
         table_bytes,
         glyphs,
@@ -278,13 +200,15 @@ pub fn cell_position(
         down,
         right,
         rects,
-        starts.len(),
-    );
-    if outcome.number != 0 {
-        return CellPositionAnswer::Refused {
-            number: outcome.number,
-            place: outcome.place,
-        };
+        room,
+    )?;
+    if reading.cells <= k {
+        return Err(Refusal::Contradiction);
     }
-    finish_cell(numbers, table_bytes, offsets, rects, outcome.cells, k)
+    let lines = NumberedLines {
+        numbers,
+        table_bytes,
+    };
+    let slots = PlacedSlots { lines, offsets };
+    Ok(slots.position(Rect::at(rects, k)))
 }

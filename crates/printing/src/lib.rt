@@ -37,12 +37,10 @@ pub fn numbers(values: &[usize], out: &mut [u8], at: usize) -> usize
     requires { at + 21 * length values.now ≤ length out.old }
     ensures { Put (21 * length values.now) out.old out.new at result (spaced values.now) }
 {
-    let mut i = 0;
     let mut end = at;
-    while i < values.len() {
+    for value in values {
         end = byte(b' ', out, end);
-        end = decimal(values[i], out, end);
-        i += 1;
+        end = decimal(*value, out, end);
     }
     end
 }
@@ -60,7 +58,7 @@ pub fn words(name: &[u8], values: &[usize], out: &mut [u8], at: usize) -> usize
 pub fn wide(x: u16) -> usize
     ensures { (result ≡ x) × (result < 65536) }
 {
-    x as usize
+    usize::from(x)
 }
 
 // Entry i of an array, 0 past its end.

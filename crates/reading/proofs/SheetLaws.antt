@@ -19,7 +19,7 @@ use Rattle.grid.specs.Cover.{Cover}
 use Rattle.representation.proofs.AgreeLaws.{Laid}
 use Rattle.representation.proofs.TracedLaws.{grid_answer-inside, grid_answer-laid, grid_answer-cover}
 use Rattle.reading.specs.Call.{SheetArrays, lines_in, rects_in, TracedSheet}
-use Rattle.reading.specs.declared.Outcome.{Outcome}
+use Rattle.reading.specs.declared.Reading.{Reading}
 
 -- rectangles grid_answer-inside 128 by 128 have entries below 128
 rects-small : (n : ℕ) (rects : List ℕ) → ((r : Rect) → Memᴰ r (rects_of n rects) → Inside 128 128 r) → (i : ℕ) → i < 4 * n → get_or rects i 0 < 128
@@ -34,12 +34,12 @@ rects-small (suc n) rects all (suc (suc (suc (suc i)))) h =
     rw at at (rw get_or-drop at (rects-small n (drop 4 rects) (λ r m. all r (Memᴰ.tail m)) i (omega (arith, mul-suc 4 n))))
 
 -- ---- a traced drawing
-module _ (a : SheetArrays) (o : Outcome) (t : TracedSheet a o) where
+module _ (a : SheetArrays) (o : Reading) (t : TracedSheet a o) where
   pub traced-accepted : grid_answer (grid_of (lines_in a)) ≡ accept (rects_in a o.cells)
-  traced-accepted = t.through.accepted t.complete
+  traced-accepted = t.through.accepted
 
   pub traced-holds : Holds (grid_of (lines_in a)).rows (grid_of (lines_in a)).width a.glyphs a.offsets
-  traced-holds = t.through.held t.complete
+  traced-holds = t.through.held
 
   pub traced_lines : length (lines_in a) ≡ length a.lengths
   traced_lines = lines-length a.lengths a.columns a.text
@@ -56,7 +56,7 @@ module _ (a : SheetArrays) (o : Outcome) (t : TracedSheet a o) where
   traced-rule = t.through.wide
 
   pub traced-separators : separator_lines o.separators ≡ (grid_of (lines_in a)).separators
-  traced-separators = t.through.separated t.complete
+  traced-separators = t.through.separated
 
   pub traced-short : (y : ℕ) → y < length (lines_in a) → length (get_or (lines_in a) y no_line).text ≤ 512
   traced-short y h =

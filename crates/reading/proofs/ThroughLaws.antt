@@ -1,111 +1,64 @@
 -- What filling and tracing a drawing give, in the terms of its grid.
 use Prim.Native.Nat.{ℕ, ◌≤◌}
-use mathlib.Core.Path.{◌≡◌, refl, sym, ap, ◌∙◌}
-use mathlib.Core.Bool.{true, false, not}
+use mathlib.Core.Path.{◌≡◌, refl, sym, ◌∙◌}
 use mathlib.Core.List.{List}
-use mathlib.Core.Logic.{⊎_elim}
-use native.Mathlib.Omega.{arith}
 use lib.ListN.{length}
-use borrow.Author.Tests.{not-true, not-false}
+use Rattle.std.specs.Prelude.{Ok, Err}
 use Rattle.text.specs.declared.Column.{Column}
+use Rattle.grid.specs.Answer.{accept, refuse}
 use Rattle.grid.specs.Slots.{grid_of, trimmed_at}
 use Rattle.grid.specs.Trace.{covered, stopped, trace}
 use Rattle.grid.specs.Flat.{lines_from}
+use Rattle.refusals.specs.Refusal.{number_of, place_of}
+use Rattle.refusals.specs.declared.Refusal.{Refusal}
 use Rattle.representation.specs.LayoutParts.{grid_answer}
 use Rattle.representation.specs.Arrays.{array_grid, rects_of}
 use Rattle.grid.proofs.GlyphLaws.{trace-same}
 use Rattle.representation.proofs.HoldsLaws.{array_same}
 use Rattle.grid.proofs.SlotLaws.{lines-length}
-use Rattle.grid.proofs.CoverTheorems.{stopped-six-or-seven}
-use Rattle.slots.specs.Filling.{AllFilled, FilledAll}
-use Rattle.slots.specs.declared.Filled.{Filled}
-use Rattle.trace.specs.Tracing.{traced_of, count_of}
-use Rattle.trace.specs.declared.Traced as tracing
-use Rattle.trace.specs.declared.Traced.TheVariants.{Covered, Stopped}
-use Rattle.trace.specs.Count.{number_of}
-use Rattle.trace.specs.declared.count.Counted.{Counted}
-use Rattle.reading.specs.Call.{Through, ThroughAll}
+use Rattle.slots.specs.Filling.{AllFilled}
+use Rattle.slots.specs.declared.Separators.{Separators}
+use Rattle.reading.specs.Call.{Through}
 
-module _ (lengths columns text rects : List ℕ) {glyphs₀ offsets₀ glyphs offsets : List ℕ} {f : Filled}
-    (all : AllFilled (grid_of (lines_from lengths columns text)) glyphs₀ offsets₀ glyphs offsets f)
-    {width : Column} (is : width.0 ≡ length (trimmed_at (lines_from lengths columns text) 0)) where
-  told : width.0 ≡ (grid_of (lines_from lengths columns text)).width
-  unfolding grid_of
-  told = is
-
-  unfilled : not f.full ≡ true
-      → Through (grid_of (lines_from lengths columns text)) glyphs offsets rects (record { number = 5; place = f.place; width = width; cells = 0; separators = f.separators })
+module _ (lengths columns text : List ℕ) {glyphs₀ offsets₀ glyphs offsets : List ℕ} where
+  -- a line that does not fill the width
+  pub unfilled : (e : Refusal) → AllFilled (grid_of (lines_from lengths columns text)) glyphs₀ offsets₀ glyphs offsets (Err e)
+      → refuse (number_of e) (place_of e) ≡ grid_answer (grid_of (lines_from lengths columns text))
   unfolding grid_answer
-  unfilled fails =
-      record {
-        refused = λ some. rw (all.wrong (not-true f.full fails));
-        accepted = λ z. absurd (omega arith);
-        wide = told;
-        few = omega arith;
-        held = λ z. absurd (omega arith);
-        separators_room = all.separators_room;
-        few_separators = all.few_separators;
-        separated = λ z. absurd (omega arith);
-      }
+  unfilled e all = rw (all.wrong e refl, all.number e refl)
 
-  module _ (passes : not f.full ≡ false) where
-    full : f.full ≡ true
-    full = not-false f.full passes
+  module _ (s : Separators) (all : AllFilled (grid_of (lines_from lengths columns text)) glyphs₀ offsets₀ glyphs offsets (Ok s))
+      (width : Column) (is : width.0 ≡ length (trimmed_at (lines_from lengths columns text) 0)) where
+    told : width.0 ≡ (grid_of (lines_from lengths columns text)).width
+    unfolding grid_of
+    told = is
 
     traced-arrays : trace (array_grid (length lengths) width.0 glyphs) ≡ trace (grid_of (lines_from lengths columns text))
     traced-arrays =
         rw (told, ← lines-length lengths columns text)
-        (sym (trace-same (grid_of (lines_from lengths columns text)) _ (array_same (lines_from lengths columns text) glyphs offsets (all.right full) (all.holds full))))
+        (sym (trace-same (grid_of (lines_from lengths columns text)) _ (array_same (lines_from lengths columns text) glyphs offsets (all.right s refl) (all.holds s refl))))
 
-    through : {t : tracing.Traced} (n : ℕ) → t ≡ Covered n → traced_of t rects ≡ trace (array_grid (length lengths) width.0 glyphs) → count_of t ≤ 1024
-        → Through (grid_of (lines_from lengths columns text)) glyphs offsets rects (record { number = 0; place = 0; width = width; cells = n; separators = f.separators })
+    -- no cover, or too many cells
+    pub untraced : (e : Refusal) → stopped (number_of e) ≡ trace (array_grid (length lengths) width.0 glyphs) → place_of e ≡ 0
+        → refuse (number_of e) (place_of e) ≡ grid_answer (grid_of (lines_from lengths columns text))
     unfolding grid_answer
-    through {t = t} n is-covered traced few =
-        let covers : covered (rects_of n rects) ≡ trace (grid_of (lines_from lengths columns text)) = ap (λ t. traced_of t rects) (sym is-covered) ∙ traced ∙ traced-arrays in
-        let counted : n ≡ count_of t = ap count_of (sym is-covered) in
-        record {
-          refused = λ some. absurd (some refl);
-          accepted = λ z. rw (all.right full, ← covers);
-          wide = told;
-          few = omega arith;
-          held = λ z. all.holds full;
-          separators_room = all.separators_room;
-          few_separators = all.few_separators;
-          separated = λ z. all.separated full;
-        }
+    untraced e stops nowhere = let stopped-too = stops ∙ traced-arrays in rw (nowhere, all.right s refl, ← stopped-too)
 
-    not_through : {t : tracing.Traced} (number : ℕ) → t ≡ Stopped number → traced_of t rects ≡ trace (array_grid (length lengths) width.0 glyphs)
-        → Through (grid_of (lines_from lengths columns text)) glyphs offsets rects (record { number = number; place = 0; width = width; cells = 0; separators = f.separators })
+    pub traced : (n : ℕ) (rects : List ℕ) → covered (rects_of n rects) ≡ trace (array_grid (length lengths) width.0 glyphs) → n ≤ 1024
+        → (accept (rects_of n rects) ≡ grid_answer (grid_of (lines_from lengths columns text)))
+        × Through (grid_of (lines_from lengths columns text)) glyphs offsets rects (record { width = width; cells = n; separators = s })
     unfolding grid_answer
-    not_through {t = t} number is-stopped traced =
-        let stops : stopped number ≡ trace (grid_of (lines_from lengths columns text)) = ap (λ t. traced_of t rects) (sym is-stopped) ∙ traced ∙ traced-arrays in
-        let six-or-seven = stopped-six-or-seven (grid_of (lines_from lengths columns text)) number (sym stops) in
-        let some : number ≡ 0 → ⊥ = λ z. ⊎_elim (λ (six : number ≡ 6). omega arith) (λ (seven : number ≡ 7). omega arith) six-or-seven in
-        record {
-          refused = λ some. rw (all.right full, ← stops);
-          accepted = λ z. absurd (some z);
-          wide = told;
-          few = omega arith;
-          held = λ z. absurd (some z);
-          separators_room = all.separators_room;
-          few_separators = all.few_separators;
-          separated = λ z. absurd (some z);
-        }
-
-    traced-through : (t : tracing.Traced) (k : Counted) → (k.number ≡ number_of t) × (k.cells ≡ count_of t)
-        → traced_of t rects ≡ trace (array_grid (length lengths) width.0 glyphs) → count_of t ≤ 1024
-        → Through (grid_of (lines_from lengths columns text)) glyphs offsets rects (record { number = k.number; place = 0; width = width; cells = k.cells; separators = f.separators })
-    traced-through (Covered n) k (number, cells) traced few = rw (number, cells) (through n refl traced few)
-    traced-through (Stopped m) k (number, cells) traced few = rw (number, cells) (not_through m refl traced)
-
--- ---- of whatever columns the lines have
-module _ (lengths text : List ℕ) (width : Column) (counts glyphs₀ offsets₀ glyphs offsets rects : List ℕ) (f : Filled)
-    (all : FilledAll lengths text width.0 counts glyphs₀ offsets₀ glyphs offsets f) where
-  pub through-unfilled : not f.full ≡ true
-      → ThroughAll lengths text width.0 counts glyphs₀ offsets₀ glyphs offsets rects (record { number = 5; place = f.place; width = width; cells = 0; separators = f.separators })
-  through-unfilled fails columns fillable = unfilled lengths columns text rects (all columns fillable) fillable.wide fails
-
-  pub through-traced : not f.full ≡ false → (t : tracing.Traced) (k : Counted) → (k.number ≡ number_of t) × (k.cells ≡ count_of t)
-      → traced_of t rects ≡ trace (array_grid (length lengths) width.0 glyphs) → count_of t ≤ 1024
-      → ThroughAll lengths text width.0 counts glyphs₀ offsets₀ glyphs offsets rects (record { number = k.number; place = 0; width = width; cells = k.cells; separators = f.separators })
-  through-traced passes t k counted traced few columns fillable = traced-through lengths columns text rects (all columns fillable) fillable.wide passes t k counted traced few
+    traced n rects covers few =
+        let covered-too = covers ∙ traced-arrays in
+        let accepted : accept (rects_of n rects) ≡ grid_answer (grid_of (lines_from lengths columns text)) = rw (all.right s refl, ← covered-too) in (
+          accepted,
+          record {
+            accepted = sym accepted;
+            wide = told;
+            few = few;
+            held = all.holds s refl;
+            separators_room = s.room;
+            few_separators = s.few;
+            separated = all.separated s refl;
+          },
+        )

@@ -1,7 +1,7 @@
 -- What a drawing has passed once its width is answered, and what working space that is not short has.
 use Prim.Native.Nat.{ℕ, ◌≤◌}
 use mathlib.Core.Path.{◌≡◌, refl, sym}
-use mathlib.Core.Bool.{false, ◌||◌}
+use mathlib.Core.Bool.{false}
 use mathlib.Core.Option.{none}
 use mathlib.Core.List.{List}
 use native.Mathlib.Omega.{arith}
@@ -9,13 +9,13 @@ use lib.Dec.{ltb}
 use lib.ListN.{length}
 use borrow.Author.Tests.{ltb-false}
 use Rattle.seq.specs.Lists.{is_empty}
-use Rattle.seq.proofs.Tests.{or-neither}
+use Rattle.std.proofs.lemmas.Bool.Decides.{nat_tests}
 use Rattle.grid.specs.Answer.{accept, refuse_if, refuse_at}
 use Rattle.grid.specs.Limits.{max_bytes, max_width}
 use Rattle.grid.specs.Slots.{trimmed_at}
 use Rattle.grid.specs.Read.{drawing_too_large, outside_set, no_rule}
-use Rattle.grid.specs.Flat.{drawing_contradicts, lines_from, lines_of}
-use Rattle.grid.specs.LayoutCall.{slot_space, rect_space, space_short, spaces, drawing}
+use Rattle.grid.specs.Flat.{FlatDrawing, drawing_contradicts, lines_of}
+use Rattle.grid.specs.LayoutCall.{slot_space, rect_space, space_short, spaces}
 use Rattle.representation.specs.LayoutParts.{width_answer}
 use Rattle.grid.proofs.ReadLaws.{passed-if, passed-at}
 use Rattle.reading.specs.Agreement.{Agree, WithinLimits}
@@ -24,13 +24,12 @@ use Rattle.representation.specs.Sheet.{Sheet}
 use Rattle.reading.proofs.CheckedLaws.{drawing_contradicts-agree}
 
 -- ---- a drawing whose width is answered
-module _ (lines bytes : ℕ) (lengths columns text : List ℕ) (width : ℕ) (e : accept width ≡ width_answer (drawing lines bytes lengths columns text)) where
-  checks : (drawing_contradicts (drawing lines bytes lengths columns text) ≡ false) × (drawing_too_large (lines_from lengths columns text) ≡ false) × (outside_set (lines_from lengths columns text) ≡ none)
-      × (ltb max_width (length (trimmed_at (lines_from lengths columns text) 0)) ≡ false) × (width ≡ length (trimmed_at (lines_from lengths columns text) 0))
-  unfolding width_answer lines_of
+module _ (d : FlatDrawing) (width : ℕ) (e : accept width ≡ width_answer d) where
+  checks : (drawing_contradicts d ≡ false) × (drawing_too_large (lines_of d) ≡ false) × (outside_set (lines_of d) ≡ none)
+      × (ltb max_width (length (trimmed_at (lines_of d) 0)) ≡ false) × (width ≡ length (trimmed_at (lines_of d) 0))
+  unfolding width_answer
   checks =
-      let d = drawing lines bytes lengths columns text in
-      let all = lines_from lengths columns text in
+      let all = lines_of d in
       let last = accept (length (trimmed_at all 0)) in
       let wide = refuse_if (ltb max_width (length (trimmed_at all 0))) 2 last in
       let four = refuse_if (no_rule all) 4 wide in
@@ -46,13 +45,14 @@ module _ (lines bytes : ℕ) (lengths columns text : List ℕ) (width : ℕ) (e 
       let same : ◌≡◌ last (accept width) = pw.1 in
       (p0.0, p2.0, p3.0, pw.0, cc)
 
-  agreed : Agree lengths columns text
-  agreed = drawing_contradicts-agree lines bytes lengths columns text false (sym checks.0) refl
+  agreed : Agree d.lengths d.columns d.text
+  agreed = drawing_contradicts-agree d false (sym checks.0) refl
 
-  limited : WithinLimits lengths columns text
-  limited = large-limited lengths columns text agreed false (sym checks.1) refl
+  limited : WithinLimits d.lengths d.columns d.text
+  limited = large-limited d agreed checks.1
 
-  pub sheet-passed : Sheet lengths columns text
+  pub sheet-passed : Sheet d.lengths d.columns d.text
+  unfolding lines_of
   sheet-passed =
       record {
         columns_agree = agreed.columns_agree;
@@ -63,32 +63,17 @@ module _ (lines bytes : ℕ) (lengths columns text : List ℕ) (width : ℕ) (e 
         in_set = checks.2;
       }
 
-  pub bytes-few : length text ≤ max_bytes
+  pub bytes-few : length d.text ≤ max_bytes
   bytes-few = limited.few_bytes
 
-  pub width-told : width ≡ length (trimmed_at (lines_from lengths columns text) 0)
+  pub width-told : width ≡ length (trimmed_at (lines_of d) 0)
   width-told = checks.4
 
   pub width_fits : width ≤ 128
-  width_fits = omega (arith, checks.4, ltb-false max_width (length (trimmed_at (lines_from lengths columns text) 0)) checks.3)
+  width_fits = omega (arith, checks.4, ltb-false max_width (length (trimmed_at (lines_of d) 0)) checks.3)
 
 -- ---- working space that is not short
 module _ (glyphs offsets down right rects : List ℕ) (enough : space_short (spaces glyphs offsets down right rects) ≡ false) where
   pub space_short-rooms : (slot_space ≤ length glyphs) × (slot_space ≤ length offsets) × (slot_space ≤ length down) × (slot_space ≤ length right) × (rect_space ≤ length rects)
   unfolding space_short
-  space_short-rooms =
-      let a = ltb (length glyphs) slot_space in
-      let b = ltb (length offsets) slot_space in
-      let c = ltb (length down) slot_space in
-      let d = ltb (length right) slot_space in
-      let f = ltb (length rects) rect_space in
-      let p = or-neither (a || b || c || d) f enough in
-      let q = or-neither (a || b || c) d p.0 in
-      let r = or-neither (a || b) c q.0 in
-      let s = or-neither a b r.0 in (
-        ltb-false (length glyphs) slot_space s.0,
-        ltb-false (length offsets) slot_space s.1,
-        ltb-false (length down) slot_space r.1,
-        ltb-false (length right) slot_space q.1,
-        ltb-false (length rects) rect_space p.1,
-      )
+  space_short-rooms = grind (arith, nat_tests)

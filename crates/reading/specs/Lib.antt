@@ -1,3 +1,4 @@
 pub mod Call
 pub mod Agreement
 pub mod Checks
+pub mod Sheets

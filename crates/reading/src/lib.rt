@@ -4,18 +4,25 @@
 pub mod checks;
 pub mod limits;
 
-ghost use Rattle.std.specs.Prelude.{ℕ, ◌≤◌, ◌<◌, ◌≡◌, List, length, get_or};
+ghost use Rattle.std.specs.Prelude.{◌^◌, ◌≤◌, ◌<◌, ◌≡◌, true, length, get_or, take, IfOk};
 ghost use Rattle.seq.specs.Lists.{sum};
 ghost use Rattle.text.specs.Trim.{trim_end};
 ghost use Rattle.text.specs.Lines.{no_text};
-ghost use Rattle.grid.specs.Flat.{split_text};
-ghost use Rattle.grid.specs.LayoutCall.{slot_space, rect_space, spaces, drawing};
-ghost use Rattle.representation.specs.LayoutParts.{rects_answer};
+ghost use Rattle.text.specs.Utf8.{plain};
+ghost use Rattle.grid.specs.Flat.{split_text, lines_of};
+ghost use Rattle.grid.specs.LayoutCall.{slot_space, rect_space, spaces};
+ghost use Rattle.grid.specs.Slots.{grid_of, trimmed_at};
+ghost use Rattle.refusals.specs.Refusal.{answer_from};
+ghost use Rattle.representation.specs.LayoutParts.{rects_answer, width_answer, grid_answer};
+ghost use Rattle.representation.specs.Lent.{drawing_of};
 ghost use Rattle.slots.specs.Filling.{Fillable};
-ghost use Rattle.reading.specs.Call.{WidthTold, ThroughAll, sheet_of, Reading};
+ghost use Rattle.slots.specs.Scan.{SheetScanned};
+ghost use Rattle.reading.specs.Call.{Through, TracedSheet, sheet_of, lines_in, rects_in};
 
-use crate::checks::{Place, contradicts, scan_lines};
+use crate::checks::{contradicts, scan_lines};
 use crate::limits::{space_short, too_large, too_wide};
+use refusals::Refusal;
+use representation::lent::Drawing;
 use rule_lines::rule::is_rule;
 use rule_lines::trim::trim_end;
 use slots::Separators;
@@ -23,174 +30,136 @@ use slots::fill::fill;
 use slots::line::plain_width;
 use slots::reach::{reach_down, reach_right};
 use text::Column;
-use trace::count::count;
+use trace::borders::Borders;
 use trace::trace;
 
-// What the checks up to the width give.
+// What reading a drawing gives: its width, how many rectangles and the separators.
 #[derive(Clone, Copy)]
-pub enum Measured {
-    Width(Column),
-    Refused { number: usize, place: usize },
-}
-
-// What reading a drawing gives: number 0, its width, how many rectangles and the separators; or the
-// refusal.
-#[derive(Clone, Copy)]
-pub struct Outcome {
-    pub number: usize,
-    pub place: usize,
+pub struct Reading {
     pub width: Column,
     pub cells: usize,
     pub separators: Separators,
 }
 
-// Line y, trimmed: a part of the text.
-pub fn trimmed_line<'a>(lengths: &[u16], text: &'a [u8], y: usize) -> &'a [u8]
-    requires { (sum lengths.now ≡ length text.now) × (y < length lengths.now) }
-    ensures { result.now ≡ trim_end (get_or (split_text lengths.now text.now) y no_text) }
-{
-    let mut at = 0;
-    let mut i = 0;
-    while i < y {
-        at += lengths[i] as usize;
-        i += 1;
-    }
-    let end = at + lengths[y] as usize;
-    trim_end(&text[at..end])
+// A drawing that was read, with the glyphs, offsets and rectangles that reading left in the working space.
+#[derive(Clone, Copy)]
+pub struct TracedDrawing<'a> {
+    pub drawing: Drawing<'a>,
+    pub glyphs: &'a [u8],
+    pub offsets: &'a [u16],
+    pub rects: &'a [u8],
+    pub reading: Reading,
+    pub ghost traced: { TracedSheet (sheet_of (drawing_of drawing) glyphs.now offsets.now rects.now) reading },
 }
 
-// The checks up to the width. Each line's slots, or what else is known of it, are left in the working
+// Where line y begins in the text.
+fn line_start(lengths: &[u16], y: usize) -> usize
+    requires { sum lengths.now < 2 ^ 64 }
+    ensures { result ≡ sum (take y lengths.now) }
+{
+    lengths.iter().take(y).map(|n| *n as usize).sum()
+}
+
+// Line y, trimmed: a part of the text.
+pub fn trimmed_line<'a>(drawing: Drawing<'a>, y: usize) -> &'a [u8]
+    requires { (sum drawing.lengths.now ≡ length drawing.text.now) × (y < length drawing.lengths.now) }
+    ensures { result.now ≡ trim_end (get_or (split_text drawing.entry.lengths.now drawing.entry.text.now) y no_text) }
+{
+    let at = line_start(drawing.lengths, y);
+    let end = at + drawing.lengths[y] as usize;
+    trim_end(&drawing.text[at..end])
+}
+
+// The width, after the checks up to it. Each line's slots, or what else is known of it, are left in the working
 // space on the way.
 fn checked(
-    lines: usize,
-    bytes: usize,
-    lengths: &[u16],
-    columns: &[u16],
-    text: &[u8],
+    drawing: Drawing<'_>,
     glyphs: &mut [u8],
     offsets: &mut [u16],
     counts: &mut [u8],
-) -> Measured
+) -> Result<Column, Refusal>
     requires { (slot_space ≤ length glyphs.old) × (slot_space ≤ length offsets.old) × (128 ≤ length counts.old) }
-    ensures { let given = drawing lines bytes lengths.now columns.now text.now in
-        WidthTold given glyphs.new offsets.new counts.new result }
+    ensures answer { answer_from (λ (w : Column). w.0) result ≡ width_answer (drawing_of drawing.entry) }
+    ensures scanned { let all = lines_of (drawing_of drawing.entry) in
+        IfOk result (λ w. SheetScanned all glyphs.new offsets.new counts.new) }
+    ensures plain_top { let all = lines_of (drawing_of drawing.entry) in
+        IfOk result (λ w. plain (trimmed_at all 0) ≡ true) }
 {
-    if contradicts(lines, bytes, lengths, columns, text) {
-        return Measured::Refused {
-            number: 13,
-            place: 0,
-        };
+    if contradicts(drawing) {
+        return Err(Refusal::Contradiction);
     }
-    if lines == 0 {
-        return Measured::Refused {
-            number: 1,
-            place: 0,
-        };
+    if drawing.lines == 0 {
+        return Err(Refusal::Empty);
     }
-    if too_large(lengths, columns, text) {
-        return Measured::Refused {
-            number: 2,
-            place: 0,
-        };
+    if too_large(drawing) {
+        return Err(Refusal::TooLarge);
     }
-    if let Place::At(y) = scan_lines(lengths, columns, text, glyphs, offsets, counts) {
-        return Measured::Refused {
-            number: 3,
-            place: y,
-        };
+    if let Some(line) = scan_lines(drawing, glyphs, offsets, counts) {
+        return Err(Refusal::OutsideSet { line });
     }
-    let top = trimmed_line(lengths, text, 0);
+    let top = trimmed_line(drawing, 0);
     if !is_rule(top, b'-') {
-        return Measured::Refused {
-            number: 4,
-            place: 0,
-        };
+        return Err(Refusal::NoRule);
     }
     let width = plain_width(top);
     if too_wide(width) {
-        return Measured::Refused {
-            number: 2,
-            place: 0,
-        };
+        return Err(Refusal::TooLarge);
     }
-    Measured::Width(width)
+    Ok(width)
 }
 
 // The checks of the slots, and tracing. `rects` holds at first how many columns the lines have.
 fn trace_lines(
-    lengths: &[u16],
-    text: &[u8],
+    drawing: Drawing<'_>,
     width: Column,
     glyphs: &mut [u8],
     offsets: &mut [u16],
     down: &mut [u8],
     right: &mut [u8],
     rects: &mut [u8],
-) -> Outcome
-    requires by_index { (columns : List ℕ) × Fillable lengths.now columns text.now width.0 rects.old glyphs.old offsets.old }
-    requires slot_space_in_bounds { (slot_space ≤ length down.old) × (slot_space ≤ length right.old) × (rect_space ≤ length rects.old) }
-    ensures { ThroughAll lengths.now text.now width.0 rects.old glyphs.old offsets.old
-        glyphs.new offsets.new rects.new result }
+) -> Result<Reading, Refusal>
+    requires fillable { Fillable drawing.lengths.now drawing.columns.now drawing.text.now width.0 rects.old glyphs.old offsets.old }
+    requires room { (slot_space ≤ length down.old) × (slot_space ≤ length right.old) × (rect_space ≤ length rects.old) }
+    ensures answer { let left = sheet_of (drawing_of drawing.entry) glyphs.new offsets.new rects.new in
+        answer_from (λ (s : Reading). rects_in left s.cells) result ≡ grid_answer (grid_of (lines_in left)) }
+    ensures through { let left = sheet_of (drawing_of drawing.entry) glyphs.new offsets.new rects.new in
+        IfOk result (λ s. Through (grid_of (lines_in left)) left.glyphs left.offsets left.rects s) }
 {
-    let filled = fill(lengths, text, width, rects, glyphs, offsets);
-    let separators = filled.separators;
-    if !filled.full {
-        return Outcome {
-            number: 5,
-            place: filled.place,
-            width,
-            cells: 0,
-            separators,
-        };
-    }
-    let height = lengths.len();
+    let separators = fill(drawing.lengths, drawing.text, width, rects, glyphs, offsets)?;
+    let height = drawing.lengths.len();
     reach_right(glyphs, height, width.0, right);
     reach_down(glyphs, height, width.0, down);
-    let counted = count(trace(glyphs, down, right, height, width.0, rects));
-    Outcome {
-        number: counted.number,
-        place: 0,
+    let borders = Borders {
+        height,
+        width: width.0,
+        glyphs,
+        down,
+        right,
+    };
+    let cells = trace(&borders, rects)?;
+    Ok(Reading {
         width,
-        cells: counted.cells,
+        cells,
         separators,
-    }
-}
-
-// A refusal, with nothing read.
-pub fn refusal(number: usize, place: usize) -> Outcome
-    ensures { (result.number ≡ number) × (result.place ≡ place) × (result.cells ≡ 0) }
-{
-    Outcome {
-        number,
-        place,
-        width: Column(0),
-        cells: 0,
-        separators: Separators {
-            lines: [0; 128],
-            count: 0,
-        },
-    }
+    })
 }
 
 // A drawing read up to its rectangles. Working space: glyphs, offsets, down and right of 16,384
 // entries each, rects of 4,096.
 pub fn read(
-    lines: usize,
-    bytes: usize,
-    lengths: &[u16],
-    columns: &[u16],
-    text: &[u8],
+    drawing: Drawing<'_>,
     glyphs: &mut [u8],
     offsets: &mut [u16],
     down: &mut [u8],
     right: &mut [u8],
     rects: &mut [u8],
-) -> Outcome
-    ensures { let space = spaces glyphs.old offsets.old down.old right.old rects.old in
-        let given = drawing lines bytes lengths.now columns.now text.now in
-        let left =
-        sheet_of lengths.now columns.now text.now glyphs.new offsets.new rects.new in
-        Reading (rects_answer space given) left result }
+) -> Result<Reading, Refusal>
+    ensures answer { let space = spaces glyphs.old offsets.old down.old right.old rects.old in
+        let given = drawing_of drawing.entry in
+        let left = sheet_of given glyphs.new offsets.new rects.new in
+        answer_from (λ (s : Reading). rects_in left s.cells) result ≡ rects_answer space given }
+    ensures traced { let left = sheet_of (drawing_of drawing.entry) glyphs.new offsets.new rects.new in
+        IfOk result (λ s. TracedSheet left s) }
 {
     if space_short(
         glyphs.len(),
@@ -199,12 +168,8 @@ pub fn read(
         right.len(),
         rects.len(),
     ) {
-        return refusal(13, 0);
+        return Err(Refusal::Contradiction);
     }
-    match checked(lines, bytes, lengths, columns, text, glyphs, offsets, rects) {
-        Measured::Refused { number, place } => refusal(number, place),
-        Measured::Width(width) => trace_lines(
-            lengths, text, width, glyphs, offsets, down, right, rects,
-        ),
-    }
+    let width = checked(drawing, glyphs, offsets, rects)?;
+    trace_lines(drawing, width, glyphs, offsets, down, right, rects)
 }

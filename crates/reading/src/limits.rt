@@ -1,11 +1,15 @@
 // The limits of a drawing and of the working space.
 ghost use Rattle.std.specs.Prelude.{◌≡◌, ltb};
 ghost use Rattle.grid.specs.Read.{drawing_too_large};
-ghost use Rattle.grid.specs.Flat.{lines_from};
-ghost use Rattle.reading.specs.Agreement.{Agree, any_over};
+ghost use Rattle.grid.specs.Flat.{lines_of};
+ghost use Rattle.std.specs.List.{list_any};
+ghost use Rattle.std.specs.Ordering.{partial_lt};
+ghost use Rattle.reading.specs.Agreement.{Agree};
 ghost use Rattle.grid.specs.Limits.{max_width};
-ghost use Rattle.grid.specs.LayoutCall.{space_short};
+ghost use Rattle.grid.specs.LayoutCall.{space_short, spaces};
+ghost use Rattle.representation.specs.Lent.{drawing_of};
 
+use representation::lent::Drawing;
 use text::Column;
 
 const MAX_LINES: usize = 128;
@@ -23,28 +27,21 @@ const SLOT_SPACE: usize = 16384;
 const RECT_SPACE: usize = 4096;
 
 // Is any number over this limit?
-fn any_over(numbers: &[u16], limit: u16) -> bool
-    ensures { result ≡ any_over limit numbers.now }
+pub fn any_over<T: Copy + PartialOrd>(numbers: &[T], limit: T) -> bool
+    ensures { result ≡ list_any (λ n. partial_lt T.partial_cmp limit n) numbers.now }
 {
-    let mut i = 0;
-    while i < numbers.len() {
-        if limit < numbers[i] {
-            return true;
-        }
-        i += 1;
-    }
-    false
+    numbers.iter().any(|n| limit < *n)
 }
 
 // 2, of a drawing whose arrays agree.
-pub fn too_large(lengths: &[u16], columns: &[u16], text: &[u8]) -> bool
-    requires { Agree lengths.now columns.now text.now }
-    ensures { result ≡ drawing_too_large (lines_from lengths.now columns.now text.now) }
+pub fn too_large(drawing: Drawing<'_>) -> bool
+    requires { Agree drawing.lengths.now drawing.columns.now drawing.text.now }
+    ensures { result ≡ drawing_too_large (lines_of (drawing_of drawing.entry)) }
 {
-    if MAX_LINES < lengths.len() {
-        return true;
-    }
-    any_over(lengths, MAX_LINE_BYTES) | any_over(columns, MAX_COLUMN) | (MAX_BYTES < text.len())
+    MAX_LINES < drawing.lengths.len()
+        || any_over(drawing.lengths, MAX_LINE_BYTES)
+        || any_over(drawing.columns, MAX_COLUMN)
+        || MAX_BYTES < drawing.text.len()
 }
 
 // 2, of a drawing's width.
@@ -55,12 +52,13 @@ pub fn too_wide(width: Column) -> bool
 }
 
 // 13, of the working space.
+#[tactic(auto, using(std::proofs::lemmas::Bool::Decides::nat_tests), unfolding(grid::specs::LayoutCall::space_short))]
 pub fn space_short(glyphs: usize, offsets: usize, down: usize, right: usize, rects: usize) -> bool
     ensures { result ≡ space_short (record { glyphs = glyphs; offsets = offsets; down = down; right = right; rects = rects }) }
 {
-    (glyphs < SLOT_SPACE)
-        | (offsets < SLOT_SPACE)
-        | (down < SLOT_SPACE)
-        | (right < SLOT_SPACE)
-        | (rects < RECT_SPACE)
+    glyphs < SLOT_SPACE
+        || offsets < SLOT_SPACE
+        || down < SLOT_SPACE
+        || right < SLOT_SPACE
+        || rects < RECT_SPACE
 }

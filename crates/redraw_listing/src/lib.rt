@@ -9,7 +9,7 @@ ghost use Rattle.drawing.specs.Listing.{redraw_listing};
 ghost use Rattle.printing.specs.Printing.{Prints};
 
 use crate::lines::redraw_lines;
-use input_lines::{Split, split_lines};
+use input_lines::{Lines, split_lines};
 use printing::refused;
 
 // Writes the redrawing of `input` at the start of `out` and counts the bytes.
@@ -20,7 +20,7 @@ pub fn print_redrawing(input: &[u8], out: &mut [u8]) -> usize
     let mut lengths = [0u16; 128];
     let mut text = [0u8; 32768];
     match split_lines(input, &mut lengths, &mut text) {
-        Split::TooLarge => refused(2, 0, out),
-        Split::Lines { lines, bytes } => redraw_lines(&lengths[0..lines], &text[0..bytes], out),
+        Err(refusal) => refused(refusal.number(), refusal.place(), out),
+        Ok(Lines { lines, bytes }) => redraw_lines(&lengths[0..lines], &text[0..bytes], out),
     }
 }

@@ -3,37 +3,27 @@ ghost use Rattle.std.specs.Prelude.{◌≤◌, ◌≡◌, false, length};
 ghost use Rattle.seq.specs.Lists.{sum};
 ghost use Rattle.grid.specs.Flat.{split_text, table_contradicts, table_of_arrays};
 ghost use Rattle.drawing.specs.Redraw.{redraw};
-ghost use Rattle.drawing.specs.RedrawCall.{table_given, table_lent};
+ghost use Rattle.representation.specs.Lent.{sizes_of, arrays_of};
 ghost use Rattle.drawing.specs.Listing.{redraw_listed};
 ghost use Rattle.printing.specs.Printing.{Prints};
 ghost use Rattle.redraw_listing.specs.Told.{lines_redrawn, DrawingTold};
 
 use crate::print::print_lines;
-use cm::draw::RedrawAnswer;
-use input_table::lines_table;
+use cm::draw::DrawingSizes;
+use input_table::TableBuffers;
 use printing::refused;
-use table::TableAnswer;
+use refusals::Refusal;
+use representation::lent::Table;
 
 // The drawing of a table at origin 0, with working space as the call names it.
 fn draw_lines(
-    columns: usize,
-    rows: usize,
-    n: usize,
-    lines: usize,
-    bytes: usize,
-    cols: &[u16],
-    sections: &[u8],
-    cells: &[u16],
-    lengths: &[u16],
-    text: &[u8],
+    table: Table<'_>,
     out_lengths: &mut [u16],
     out_text: &mut [u8],
-) -> RedrawAnswer
-    requires t_value { let t = table_lent cols.now sections.now cells.now lengths.now text.now in
-        table_contradicts (table_given columns rows n lines bytes) t ≡ false }
-    requires out_lengths_len { (length out_lengths.old ≡ 128) × (length out_text.old ≡ 32768) }
-    ensures { let table = table_lent cols.now sections.now cells.now lengths.now text.now in
-        let drawing = redraw 0 (table_of_arrays (table_given columns rows n lines bytes) table) in
+) -> Result<DrawingSizes, Refusal>
+    requires agreeing { table_contradicts (sizes_of table) (arrays_of table) ≡ false }
+    requires room { (length out_lengths.old ≡ 128) × (length out_text.old ≡ 32768) }
+    ensures { let drawing = redraw 0 (table_of_arrays (sizes_of table.entry) (arrays_of table.entry)) in
         DrawingTold drawing out_lengths.new out_text.new result }
 {
     let mut starts = [0u16; 16384];
@@ -46,16 +36,7 @@ fn draw_lines(
     let mut out_columns = [0u16; 128];
     cm::redraw(
         0,
-        columns,
-        rows,
-        n,
-        lines,
-        bytes,
-        cols,
-        sections,
-        cells,
-        lengths,
-        text,
+        table,
         &mut starts,
         &mut ends,
         &mut firsts,
@@ -70,46 +51,16 @@ fn draw_lines(
 }
 
 // The drawing of a table at origin 0, printed.
-fn redraw_table(
-    columns: usize,
-    rows: usize,
-    n: usize,
-    lines: usize,
-    bytes: usize,
-    cols: &[u16],
-    sections: &[u8],
-    cells: &[u16],
-    lengths: &[u16],
-    text: &[u8],
-    out: &mut [u8],
-) -> usize
-    requires t_value { let t = table_lent cols.now sections.now cells.now lengths.now text.now in
-        table_contradicts (table_given columns rows n lines bytes) t ≡ false }
-    requires in_bounds { 131072 ≤ length out.old }
-    ensures { let table = table_lent cols.now sections.now cells.now lengths.now text.now in
-        Prints out.new result (redraw_listed (redraw 0 (table_of_arrays (table_given columns rows n lines bytes) table))) }
+fn redraw_table(table: Table<'_>, out: &mut [u8]) -> usize
+    requires agreeing { table_contradicts (sizes_of table) (arrays_of table) ≡ false }
+    requires room { 131072 ≤ length out.old }
+    ensures { Prints out.new result (redraw_listed (redraw 0 (table_of_arrays (sizes_of table.entry) (arrays_of table.entry)))) }
 {
     let mut out_lengths = [0u16; 128];
     let mut out_text = [0u8; 32768];
-    match draw_lines(
-        columns,
-        rows,
-        n,
-        lines,
-        bytes,
-        cols,
-        sections,
-        cells,
-        lengths,
-        text,
-        &mut out_lengths,
-        &mut out_text,
-    ) {
-        RedrawAnswer::Refused { number, place } => refused(number, place, out),
-        RedrawAnswer::Accepted {
-            lines: drawn,
-            bytes: weight,
-        } => print_lines(&out_lengths[0..drawn], &out_text[0..weight], out),
+    match draw_lines(table, &mut out_lengths, &mut out_text) {
+        Ok(drawn) => print_lines(&out_lengths[..drawn.lines], &out_text[..drawn.bytes], out),
+        Err(refusal) => refused(refusal.number(), refusal.place(), out),
     }
 }
 
@@ -118,40 +69,9 @@ pub fn redraw_lines(lengths: &[u16], text: &[u8], out: &mut [u8]) -> usize
     requires { (length lengths.now ≤ 128) × (sum lengths.now ≡ length text.now) × (131072 ≤ length out.old) }
     ensures { Prints out.new result (lines_redrawn (split_text lengths.now text.now)) }
 {
-    // They hold every table.
-    let mut cols = [0u16; 254];
-    let mut sections = [0u8; 127];
-    let mut cells = [0u16; 5120];
-    let mut kept_lengths = [0u16; 16384];
-    let mut kept_text = [0u8; 32768];
-    match lines_table(
-        lengths,
-        text,
-        &mut cols,
-        &mut sections,
-        &mut cells,
-        &mut kept_lengths,
-        &mut kept_text,
-    ) {
-        TableAnswer::Refused { number, place } => refused(number, place, out),
-        TableAnswer::Accepted {
-            columns: across,
-            rows: tall,
-            cells: count,
-            lines: kept,
-            bytes: weight,
-        } => redraw_table(
-            across,
-            tall,
-            count,
-            kept,
-            weight,
-            &cols[0..2 * across],
-            &sections[0..tall],
-            &cells[0..5 * count],
-            &kept_lengths[0..kept],
-            &kept_text[0..weight],
-            out,
-        ),
+    let mut buffers = TableBuffers::new();
+    match buffers.read(lengths, text) {
+        Ok(table) => redraw_table(table, out),
+        Err(refusal) => refused(refusal.number(), refusal.place(), out),
     }
 }

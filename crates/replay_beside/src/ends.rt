@@ -1,6 +1,7 @@
 // The cases of line ends.
-use line_ends::{AddAnswer, FindAnswer, RemapAnswer};
-use replaying::{number_field, print, print_list, print_refused, word_field, words_field};
+use line_ends::Register;
+use refusals::Refusal;
+use replaying::{number_field, print, print_list, word_field, words_field};
 use sourcepos::CellLineEnd;
 use std::io;
 
@@ -12,10 +13,10 @@ fn end_fields(case: &[u8]) -> CellLineEnd {
     }
 }
 
-fn print_added(rt: &impl Print, answer: AddAnswer) -> io::Result<()> {
+fn print_added(rt: &impl Print, answer: Result<usize, Refusal>) -> io::Result<()> {
     match answer {
-        AddAnswer::Refused { number, place } => print_refused(rt, number, place),
-        AddAnswer::Accepted(count) => {
+        Err(refusal) => rt.print(refusal),
+        Ok(count) => {
             rt.write_all(b"accepted")?;
             print(rt, count)
         }
@@ -56,14 +57,14 @@ pub fn answer_add(rt: &impl Print, case: &[u8]) -> io::Result<()> {
     )
 }
 
-fn print_found(rt: &impl Print, answer: FindAnswer) -> io::Result<()> {
+fn print_found(rt: &impl Print, answer: Result<Option<u32>, Refusal>) -> io::Result<()> {
     match answer {
-        FindAnswer::Refused { number, place } => print_refused(rt, number, place),
-        FindAnswer::Found(eol) => {
+        Err(refusal) => rt.print(refusal),
+        Ok(Some(eol)) => {
             rt.write_all(b"found")?;
-            print(rt, eol as usize)
+            print(rt, eol)
         }
-        FindAnswer::None => rt.write_all(b"none"),
+        Ok(None) => rt.write_all(b"none"),
     }
 }
 
@@ -74,25 +75,26 @@ pub fn answer_find(rt: &impl Print, case: &[u8]) -> io::Result<()> {
     let j = words_field(case, 5, &mut starts);
     let mut eols = [0u32; 2048];
     let k = words_field(case, 6, &mut eols);
-    let answer = line_ends::find(
-        number_field(case, 3),
-        &lines[0..i],
-        &starts[0..j],
-        &eols[0..k],
-        word_field(case, 1),
-        word_field(case, 2),
-    );
-    print_found(rt, answer)
+    let register = Register {
+        count: number_field(case, 3),
+        lines: &lines[0..i],
+        starts: &starts[0..j],
+        eols: &eols[0..k],
+    };
+    print_found(
+        rt,
+        line_ends::find(register, word_field(case, 1), word_field(case, 2)),
+    )
 }
 
-fn print_remapped(rt: &impl Print, answer: RemapAnswer) -> io::Result<()> {
+fn print_remapped(rt: &impl Print, answer: Result<CellLineEnd, Refusal>) -> io::Result<()> {
     match answer {
-        RemapAnswer::Refused { number, place } => print_refused(rt, number, place),
-        RemapAnswer::Accepted(end) => {
+        Err(refusal) => rt.print(refusal),
+        Ok(end) => {
             rt.write_all(b"accepted")?;
-            print(rt, end.line as usize)?;
-            print(rt, end.start as usize)?;
-            print(rt, end.eol as usize)
+            print(rt, end.line)?;
+            print(rt, end.start)?;
+            print(rt, end.eol)
         }
     }
 }

@@ -31,15 +31,14 @@ mod places;
 use crate::ends::{answer_add, answer_find, answer_remap};
 use crate::pages::{answer_page, answer_share};
 use crate::places::answer_placed;
-use replaying::{first_line, next_line};
+use replaying::answer_lines;
 use std::io;
-use std::io::Read;
 
 fn answer_case(rt: &impl Print, case: &[u8]) -> io::Result<()> {
-    if case.len() == 0 {
+    let Some(kind) = case.first() else {
         return Ok(());
-    }
-    match case[0] {
+    };
+    match *kind {
         b'p' => answer_placed(rt, case, false)?,
         b'c' => answer_placed(rt, case, true)?,
         b'a' => answer_add(rt, case)?,
@@ -52,18 +51,6 @@ fn answer_case(rt: &impl Print, case: &[u8]) -> io::Result<()> {
     rt.write_all(b"\n")
 }
 
-fn answer_all(rt: &impl Print, stdin: &mut impl Read, buffer: &mut [u8]) -> io::Result<()> {
-    let mut line = first_line(stdin, buffer)?;
-    while 0 < line.left {
-        let start = line.start;
-        let end = line.end;
-        answer_case(rt, &buffer[start..end])?;
-        line = next_line(stdin, buffer, line)?;
-    }
-    Ok(())
-}
-
 fn main(rt: HostRuntime) -> io::Result<()> {
-    let mut buffer = [0u8; 65536];
-    answer_all(&rt, &mut rt.stdin(), &mut buffer)
+    answer_lines(&mut rt.stdin(), |line| answer_case(&rt, line))
 }

@@ -1,32 +1,25 @@
 // The cases of pages and shares.
 ghost use Rattle.std.specs.Prelude.{◌≤◌, length};
 
-use html_page::PageAnswer;
+use html_page::lent::PageTable;
 use html_page::share::share_of;
-use numbers::least;
-use replaying::{
-    half_word, number_field, numbers_field, print, print_digits, print_refused, text_field,
-    word_field,
-};
+use refusals::Refusal;
+use replaying::{half_word, number_field, numbers_field, print, text_field, word_field};
 use std::io;
+use table_checks::shape::Shape;
 
 fn is_plain(b: u8) -> bool {
-    (32 <= b) & (b < 127) & (b != b'\\')
+    32 <= b && b < 127 && b != b'\\'
 }
 
-// The first byte at or after `from` that is not printed as it is, or the end.
-fn plain_end(bytes: &[u8], from: usize) -> usize
-    requires { from ≤ length bytes.now }
-    ensures { (from ≤ result) × (result ≤ length bytes.now) }
+// How many bytes at the front are printed as they are.
+fn plain_len(bytes: &[u8]) -> usize
+    ensures { result ≤ length bytes.now }
 {
-    let mut i = from;
-    while i < bytes.len() {
-        if !is_plain(bytes[i]) {
-            return i;
-        }
-        i += 1;
-    }
-    i
+    bytes
+        .iter()
+        .position(|b| !is_plain(*b))
+        .unwrap_or(bytes.len())
 }
 
 fn print_code(rt: &impl Print, b: u8) -> io::Result<()> {
@@ -35,26 +28,28 @@ fn print_code(rt: &impl Print, b: u8) -> io::Result<()> {
 }
 
 fn print_escaped(rt: &impl Print, bytes: &[u8]) -> io::Result<()> {
-    let mut at = 0;
-    while at < bytes.len() {
-        let end = plain_end(bytes, at);
-        rt.write_all(&bytes[at..end])?;
-        if end < bytes.len() {
-            print_code(rt, bytes[end])?;
-        }
-        at = end + 1;
+    let mut rest = bytes;
+    // A while: the parts between escaped bytes have different sizes.
+    while !rest.is_empty() {
+        let (plain, coded) = rest.split_at(plain_len(rest));
+        rt.write_all(plain)?;
+        let Some((b, later)) = coded.split_first() else {
+            return Ok(());
+        };
+        print_code(rt, *b)?;
+        rest = later;
     }
     Ok(())
 }
 
-fn print_page(rt: &impl Print, answer: PageAnswer, page: &[u8]) -> io::Result<()> {
+fn print_page(rt: &impl Print, answer: Result<usize, Refusal>, page: &[u8]) -> io::Result<()> {
     match answer {
-        PageAnswer::Refused { number, place } => print_refused(rt, number, place),
-        PageAnswer::Accepted(bytes) => {
+        Err(refusal) => rt.print(refusal),
+        Ok(bytes) => {
             rt.write_all(b"accepted")?;
             print(rt, bytes)?;
             rt.write_all(b" ")?;
-            let end = least(bytes, page.len());
+            let end = bytes.min(page.len());
             print_escaped(rt, &page[0..end])
         }
     }
@@ -69,18 +64,19 @@ fn answer(
     inner: &[u8],
     page: &mut [u8],
 ) -> io::Result<()> {
-    let answer = html_page::page(
-        number_field(case, 1) == 1,
-        number_field(case, 2),
-        number_field(case, 3),
-        number_field(case, 4),
-        number_field(case, 5),
-        cols,
-        sections,
-        cells,
+    let table = PageTable {
+        shape: Shape {
+            columns: number_field(case, 2),
+            rows: number_field(case, 3),
+            cells: number_field(case, 4),
+            column_entries: cols,
+            sections,
+            cell_entries: cells,
+        },
+        bytes: number_field(case, 5),
         inner,
-        page,
-    );
+    };
+    let answer = html_page::page(number_field(case, 1) == 1, table, page);
     print_page(rt, answer, page)
 }
 
@@ -94,7 +90,7 @@ pub fn answer_page(rt: &impl Print, case: &[u8]) -> io::Result<()> {
     let mut inner = [0u8; 40000];
     let n = text_field(case, 9, &mut inner);
     let mut page = [0u8; 65536];
-    let room = least(number_field(case, 10), 65536);
+    let room = number_field(case, 10).min(65536);
     answer(
         rt,
         case,
@@ -108,7 +104,7 @@ pub fn answer_page(rt: &impl Print, case: &[u8]) -> io::Result<()> {
 
 pub fn answer_share(rt: &impl Print, case: &[u8]) -> io::Result<()> {
     let share = share_of(half_word(word_field(case, 1)), word_field(case, 2));
-    print_digits(rt, share.hundredths as usize)?;
+    rt.print(share.hundredths)?;
     rt.write_all(b" ")?;
     let bits = f64::to_bits(share.percent);
     print!(rt; "{bits:016x}")

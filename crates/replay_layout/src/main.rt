@@ -10,57 +10,40 @@
 // An answer is `refused`, number and place; or `accepted`, width, columns, rows, cells, ranges and all entries of the four arrays.
 #![tactic(auto)]
 
-use layout::LayoutAnswer;
-use numbers::least;
-use replaying::{
-    first_line, next_line, number_field, numbers_field, print, print_entries, print_refused, space,
-    text_field,
-};
+use layout::{LayoutSizes, layout};
+use refusals::Refusal;
+use replaying::{answer_drawing, answer_lines, numbers_field, print, print_entries, space};
+use representation::lent::Drawing;
 use std::io;
-use std::io::Read;
 
 fn print_answer(
     rt: &impl Print,
-    answer: LayoutAnswer,
+    answer: Result<LayoutSizes, Refusal>,
     cols: &[u16],
     rows: &[u16],
     cells: &[u16],
     ranges: &[u16],
 ) -> io::Result<()> {
     match answer {
-        LayoutAnswer::Refused { number, place } => print_refused(rt, number, place)?,
-        LayoutAnswer::Accepted {
-            width,
-            columns: across,
-            rows: down,
-            cells: count,
-            ranges: inner,
-        } => {
+        Err(refusal) => rt.print(refusal)?,
+        Ok(sizes) => {
             rt.write_all(b"accepted")?;
-            print(rt, width.0)?;
-            print(rt, across)?;
-            print(rt, down)?;
-            print(rt, count)?;
-            print(rt, inner)?;
-            print_entries(rt, cols, 2 * least(across, 127))?;
-            print_entries(rt, rows, 3 * least(down, 127))?;
-            print_entries(rt, cells, 5 * least(count, 1024))?;
-            print_entries(rt, ranges, 2 * least(inner, 16384))?;
+            print(rt, sizes.width.0)?;
+            print(rt, sizes.columns)?;
+            print(rt, sizes.rows)?;
+            print(rt, sizes.cells)?;
+            print(rt, sizes.ranges)?;
+            print_entries(rt, cols, 2 * sizes.columns.min(127))?;
+            print_entries(rt, rows, 3 * sizes.rows.min(127))?;
+            print_entries(rt, cells, 5 * sizes.cells.min(1024))?;
+            print_entries(rt, ranges, 2 * sizes.ranges.min(16384))?;
         }
     }
     rt.write_all(b"\n")
 }
 
 // The output arrays hold the largest results.
-fn answer(
-    rt: &impl Print,
-    lines: usize,
-    bytes: usize,
-    lengths: &[u16],
-    columns: &[u16],
-    text: &[u8],
-    spaces: &[u16],
-) -> io::Result<()> {
+fn answer(rt: &impl Print, drawing: Drawing<'_>, spaces: &[u16]) -> io::Result<()> {
     let mut glyphs = [0u8; 16384];
     let mut offsets = [0u16; 16384];
     let mut down = [0u8; 16384];
@@ -70,12 +53,8 @@ fn answer(
     let mut rows = [0u16; 381];
     let mut cells = [0u16; 5120];
     let mut ranges = [0u16; 32768];
-    let answer = layout::layout(
-        lines,
-        bytes,
-        lengths,
-        columns,
-        text,
+    let answer = layout(
+        drawing,
         &mut glyphs[0..space(spaces, 0, 16384)],
         &mut offsets[0..space(spaces, 1, 16384)],
         &mut down[0..space(spaces, 2, 16384)],
@@ -90,37 +69,12 @@ fn answer(
 }
 
 fn answer_line(rt: &impl Print, line: &[u8]) -> io::Result<()> {
-    let mut lengths = [0u16; 256];
-    let n = numbers_field(line, 2, &mut lengths);
-    let mut columns = [0u16; 256];
-    let m = numbers_field(line, 3, &mut columns);
-    let mut text = [0u8; 40000];
-    let k = text_field(line, 4, &mut text);
     let mut spaces = [0u16; 9];
-    let s = numbers_field(line, 5, &mut spaces);
-    answer(
-        rt,
-        number_field(line, 0),
-        number_field(line, 1),
-        &lengths[0..n],
-        &columns[0..m],
-        &text[0..k],
-        &spaces[0..s],
-    )
-}
-
-fn answer_all(rt: &impl Print, stdin: &mut impl Read, buffer: &mut [u8]) -> io::Result<()> {
-    let mut line = first_line(stdin, buffer)?;
-    while 0 < line.left {
-        let start = line.start;
-        let end = line.end;
-        answer_line(rt, &buffer[start..end])?;
-        line = next_line(stdin, buffer, line)?;
-    }
-    Ok(())
+    let n = numbers_field(line, 5, &mut spaces);
+    let spaces = &spaces[..n];
+    answer_drawing(line, 0, |drawing| answer(rt, drawing, spaces))
 }
 
 fn main(rt: HostRuntime) -> io::Result<()> {
-    let mut buffer = [0u8; 65536];
-    answer_all(&rt, &mut rt.stdin(), &mut buffer)
+    answer_lines(&mut rt.stdin(), |line| answer_line(&rt, line))
 }

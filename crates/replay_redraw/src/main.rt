@@ -11,49 +11,39 @@
 // An answer is `refused`, number and place; or `accepted`, lines, bytes, all line lengths, all line columns, and the text as it is.
 #![tactic(auto)]
 
-use cm::draw::RedrawAnswer;
-use numbers::least;
+use cm::draw::DrawingSizes;
+use refusals::Refusal;
 use replaying::{
-    first_line, next_line, number_field, numbers_field, print, print_entries, print_refused, space,
-    text_field,
+    answer_lines, number_field, numbers_field, print, print_entries, space, text_field,
 };
+use representation::lent::Table;
 use std::io;
-use std::io::Read;
 
 fn print_answer(
     rt: &impl Print,
-    answer: RedrawAnswer,
+    answer: Result<DrawingSizes, Refusal>,
     lengths: &[u16],
     columns: &[u16],
     text: &[u8],
 ) -> io::Result<()> {
     match answer {
-        RedrawAnswer::Refused { number, place } => print_refused(rt, number, place)?,
-        RedrawAnswer::Accepted { lines, bytes } => {
+        Err(refusal) => rt.print(refusal)?,
+        Ok(DrawingSizes { lines, bytes }) => {
             rt.write_all(b"accepted")?;
             print(rt, lines)?;
             print(rt, bytes)?;
             print_entries(rt, lengths, lines)?;
             print_entries(rt, columns, lines)?;
             rt.write_all(b" ")?;
-            let end = least(bytes, text.len());
-            rt.write_all(&text[0..end])?;
+            let end = bytes.min(text.len());
+            rt.write_all(&text[..end])?;
         }
     }
     rt.write_all(b"\n")
 }
 
 // The output arrays hold the largest results.
-fn answer(
-    rt: &impl Print,
-    line: &[u8],
-    cols: &[u16],
-    sections: &[u8],
-    cells: &[u16],
-    lengths: &[u16],
-    text: &[u8],
-    spaces: &[u16],
-) -> io::Result<()> {
+fn answer(rt: &impl Print, origin: usize, table: Table<'_>, spaces: &[u16]) -> io::Result<()> {
     let mut starts = [0u16; 16384];
     let mut ends = [0u16; 16384];
     let mut firsts = [0u16; 1024];
@@ -65,27 +55,18 @@ fn answer(
     let mut out_columns = [0u16; 128];
     let mut out_text = [0u8; 32768];
     let answer = cm::redraw(
-        number_field(line, 0),
-        number_field(line, 1),
-        number_field(line, 2),
-        number_field(line, 3),
-        number_field(line, 4),
-        number_field(line, 5),
-        cols,
-        sections,
-        cells,
-        lengths,
-        text,
-        &mut starts[0..space(spaces, 0, 16384)],
-        &mut ends[0..space(spaces, 1, 16384)],
-        &mut firsts[0..space(spaces, 2, 1024)],
-        &mut heights[0..space(spaces, 3, 1024)],
-        &mut wides[0..space(spaces, 4, 1024)],
-        &mut rects[0..space(spaces, 5, 4096)],
-        &mut canvas[0..space(spaces, 6, 16384)],
-        &mut out_lengths[0..space(spaces, 7, 128)],
-        &mut out_columns[0..space(spaces, 8, 128)],
-        &mut out_text[0..space(spaces, 9, 32768)],
+        origin,
+        table,
+        &mut starts[..space(spaces, 0, 16384)],
+        &mut ends[..space(spaces, 1, 16384)],
+        &mut firsts[..space(spaces, 2, 1024)],
+        &mut heights[..space(spaces, 3, 1024)],
+        &mut wides[..space(spaces, 4, 1024)],
+        &mut rects[..space(spaces, 5, 4096)],
+        &mut canvas[..space(spaces, 6, 16384)],
+        &mut out_lengths[..space(spaces, 7, 128)],
+        &mut out_columns[..space(spaces, 8, 128)],
+        &mut out_text[..space(spaces, 9, 32768)],
     );
     print_answer(rt, answer, &out_lengths, &out_columns, &out_text)
 }
@@ -103,30 +84,21 @@ fn answer_line(rt: &impl Print, line: &[u8]) -> io::Result<()> {
     let k = text_field(line, 10, &mut text);
     let mut spaces = [0u16; 10];
     let s = numbers_field(line, 11, &mut spaces);
-    answer(
-        rt,
-        line,
-        &cols[0..i],
-        &sections[0..j],
-        &cells[0..n],
-        &lengths[0..m],
-        &text[0..k],
-        &spaces[0..s],
-    )
-}
-
-fn answer_all(rt: &impl Print, stdin: &mut impl Read, buffer: &mut [u8]) -> io::Result<()> {
-    let mut line = first_line(stdin, buffer)?;
-    while 0 < line.left {
-        let start = line.start;
-        let end = line.end;
-        answer_line(rt, &buffer[start..end])?;
-        line = next_line(stdin, buffer, line)?;
-    }
-    Ok(())
+    let table = Table {
+        columns: number_field(line, 1),
+        rows: number_field(line, 2),
+        cells: number_field(line, 3),
+        lines: number_field(line, 4),
+        bytes: number_field(line, 5),
+        column_entries: &cols[..i],
+        sections: &sections[..j],
+        cell_entries: &cells[..n],
+        lengths: &lengths[..m],
+        text: &text[..k],
+    };
+    answer(rt, number_field(line, 0), table, &spaces[..s])
 }
 
 fn main(rt: HostRuntime) -> io::Result<()> {
-    let mut buffer = [0u8; 65536];
-    answer_all(&rt, &mut rt.stdin(), &mut buffer)
+    answer_lines(&mut rt.stdin(), |line| answer_line(&rt, line))
 }

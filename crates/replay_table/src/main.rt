@@ -10,18 +10,15 @@
 // An answer is `refused`, number and place; or `accepted`, columns, rows, cells, lines, bytes and all entries of the five arrays.
 #![tactic(auto)]
 
-use numbers::least;
-use replaying::{
-    first_line, next_line, number_field, numbers_field, print, print_bytes, print_entries,
-    print_refused, space, text_field,
-};
+use refusals::Refusal;
+use replaying::{answer_drawing, answer_lines, numbers_field, print, print_entries, space};
+use representation::lent::Drawing;
 use std::io;
-use std::io::Read;
-use table::TableAnswer;
+use table::TableSizes;
 
 fn print_answer(
     rt: &impl Print,
-    answer: TableAnswer,
+    answer: Result<TableSizes, Refusal>,
     cols: &[u16],
     sections: &[u8],
     cells: &[u16],
@@ -29,40 +26,26 @@ fn print_answer(
     text: &[u8],
 ) -> io::Result<()> {
     match answer {
-        TableAnswer::Refused { number, place } => print_refused(rt, number, place)?,
-        TableAnswer::Accepted {
-            columns: across,
-            rows: tall,
-            cells: count,
-            lines: kept,
-            bytes: weight,
-        } => {
+        Err(refusal) => rt.print(refusal)?,
+        Ok(sizes) => {
             rt.write_all(b"accepted")?;
-            print(rt, across)?;
-            print(rt, tall)?;
-            print(rt, count)?;
-            print(rt, kept)?;
-            print(rt, weight)?;
-            print_entries(rt, cols, 2 * least(across, 127))?;
-            print_bytes(rt, sections, tall)?;
-            print_entries(rt, cells, 5 * least(count, 1024))?;
-            print_entries(rt, lengths, kept)?;
-            print_bytes(rt, text, weight)?;
+            print(rt, sizes.columns)?;
+            print(rt, sizes.rows)?;
+            print(rt, sizes.cells)?;
+            print(rt, sizes.lines)?;
+            print(rt, sizes.bytes)?;
+            print_entries(rt, cols, 2 * sizes.columns.min(127))?;
+            print_entries(rt, sections, sizes.rows)?;
+            print_entries(rt, cells, 5 * sizes.cells.min(1024))?;
+            print_entries(rt, lengths, sizes.lines)?;
+            print_entries(rt, text, sizes.bytes)?;
         }
     }
     rt.write_all(b"\n")
 }
 
 // The output arrays hold the largest results.
-fn answer(
-    rt: &impl Print,
-    lines: usize,
-    bytes: usize,
-    lengths: &[u16],
-    columns: &[u16],
-    text: &[u8],
-    spaces: &[u16],
-) -> io::Result<()> {
+fn answer(rt: &impl Print, drawing: Drawing<'_>, spaces: &[u16]) -> io::Result<()> {
     let mut glyphs = [0u8; 16384];
     let mut offsets = [0u16; 16384];
     let mut down = [0u8; 16384];
@@ -73,14 +56,10 @@ fn answer(
     let mut cols = [0u16; 254];
     let mut sections = [0u8; 127];
     let mut cells = [0u16; 5120];
-    let mut out_lengths = [0u16; 16384];
-    let mut out_text = [0u8; 32768];
+    let mut lengths = [0u16; 16384];
+    let mut text = [0u8; 32768];
     let answer = table::table(
-        lines,
-        bytes,
-        lengths,
-        columns,
-        text,
+        drawing,
         &mut glyphs[0..space(spaces, 0, 16384)],
         &mut offsets[0..space(spaces, 1, 16384)],
         &mut down[0..space(spaces, 2, 16384)],
@@ -91,52 +70,19 @@ fn answer(
         &mut cols[0..space(spaces, 7, 254)],
         &mut sections[0..space(spaces, 8, 127)],
         &mut cells[0..space(spaces, 9, 5120)],
-        &mut out_lengths[0..space(spaces, 10, 16384)],
-        &mut out_text[0..space(spaces, 11, 32768)],
+        &mut lengths[0..space(spaces, 10, 16384)],
+        &mut text[0..space(spaces, 11, 32768)],
     );
-    print_answer(
-        rt,
-        answer,
-        &cols,
-        &sections,
-        &cells,
-        &out_lengths,
-        &out_text,
-    )
+    print_answer(rt, answer, &cols, &sections, &cells, &lengths, &text)
 }
 
 fn answer_line(rt: &impl Print, line: &[u8]) -> io::Result<()> {
-    let mut lengths = [0u16; 256];
-    let n = numbers_field(line, 2, &mut lengths);
-    let mut columns = [0u16; 256];
-    let m = numbers_field(line, 3, &mut columns);
-    let mut text = [0u8; 40000];
-    let k = text_field(line, 4, &mut text);
     let mut spaces = [0u16; 12];
-    let s = numbers_field(line, 5, &mut spaces);
-    answer(
-        rt,
-        number_field(line, 0),
-        number_field(line, 1),
-        &lengths[0..n],
-        &columns[0..m],
-        &text[0..k],
-        &spaces[0..s],
-    )
-}
-
-fn answer_all(rt: &impl Print, stdin: &mut impl Read, buffer: &mut [u8]) -> io::Result<()> {
-    let mut line = first_line(stdin, buffer)?;
-    while 0 < line.left {
-        let start = line.start;
-        let end = line.end;
-        answer_line(rt, &buffer[start..end])?;
-        line = next_line(stdin, buffer, line)?;
-    }
-    Ok(())
+    let n = numbers_field(line, 5, &mut spaces);
+    let spaces = &spaces[..n];
+    answer_drawing(line, 0, |drawing| answer(rt, drawing, spaces))
 }
 
 fn main(rt: HostRuntime) -> io::Result<()> {
-    let mut buffer = [0u8; 65536];
-    answer_all(&rt, &mut rt.stdin(), &mut buffer)
+    answer_lines(&mut rt.stdin(), |line| answer_line(&rt, line))
 }

@@ -1,12 +1,3 @@
-pub mod LayoutReplyLaws
-pub mod CutReplyLaws
-pub mod TableReplyLaws
-pub mod CellReplyLaws
-pub mod RedrawReplyLaws
-pub mod SheetReplyLaws
-pub mod PositionsReplyLaws
-pub mod CellPositionReplyLaws
-pub mod LineEndReplyLaws
 pub mod PageReplyLaws
 pub mod SpaceLaws
 pub mod RoomLaws

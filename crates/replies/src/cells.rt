@@ -3,7 +3,7 @@ ghost use Rattle.std.specs.Prelude.{◌≡◌};
 ghost use Rattle.cell.specs.Answer.{cell_answer_of};
 ghost use Rattle.replies.specs.CellReply.{cell_reply_of};
 
-use cell::CellAnswer;
+use refusals::Refusal;
 
 // Number 0 is acceptance; then how many cut lines were written. A refusal has its number and place,
 // and 0 for the lines.
@@ -15,18 +15,18 @@ pub struct CellReply {
     pub lines: usize,
 }
 
-pub fn cell_reply(answer: CellAnswer) -> CellReply
+pub fn cell_reply(answer: Result<usize, Refusal>) -> CellReply
     ensures { result ≡ cell_reply_of (cell_answer_of answer) }
 {
     match answer {
-        CellAnswer::Accepted(lines) => CellReply {
+        Ok(lines) => CellReply {
             number: 0,
             place: 0,
             lines,
         },
-        CellAnswer::Refused { number, place } => CellReply {
-            number,
-            place,
+        Err(refusal) => CellReply {
+            number: refusal.number(),
+            place: refusal.place(),
             lines: 0,
         },
     }

@@ -4,6 +4,7 @@ ghost use Rattle.fragments.specs.Call.{answer_of};
 ghost use Rattle.replies.specs.CutReply.{cut_reply_of};
 
 use fragments::Cut;
+use refusals::Refusal;
 
 // Number 0 is acceptance; then the cut text is the part of the line from `start` to `end`, with its
 // line, byte and column. A refusal has its number and place, and 0 for the rest.
@@ -19,28 +20,22 @@ pub struct CutReply {
     pub column: usize,
 }
 
-pub fn cut_reply(answer: Cut) -> CutReply
+pub fn cut_reply(answer: Result<Cut, Refusal>) -> CutReply
     ensures { result ≡ cut_reply_of (answer_of answer) }
 {
     match answer {
-        Cut::Accepted {
-            start,
-            end,
-            line,
-            byte,
-            column,
-        } => CutReply {
+        Ok(cut) => CutReply {
             number: 0,
             place: 0,
-            start: start.0,
-            end: end.0,
-            line,
-            byte: byte.0,
-            column: column.0,
+            start: cut.start.0,
+            end: cut.end.0,
+            line: cut.line,
+            byte: cut.byte.0,
+            column: cut.column.0,
         },
-        Cut::Refused { number, place } => CutReply {
-            number,
-            place,
+        Err(refusal) => CutReply {
+            number: refusal.number(),
+            place: refusal.place(),
             start: 0,
             end: 0,
             line: 0,

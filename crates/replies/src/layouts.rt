@@ -3,7 +3,8 @@ ghost use Rattle.std.specs.Prelude.{◌≡◌};
 ghost use Rattle.layout.specs.Call.{layout_answer_of};
 ghost use Rattle.replies.specs.LayoutReply.{layout_reply_of};
 
-use layout::LayoutAnswer;
+use layout::LayoutSizes;
+use refusals::Refusal;
 
 // Number 0 is acceptance; then the values are those of the call. A refusal has its number and
 // place, and 0 for the rest.
@@ -19,28 +20,22 @@ pub struct LayoutReply {
     pub ranges: usize,
 }
 
-pub fn layout_reply(answer: LayoutAnswer) -> LayoutReply
+pub fn layout_reply(answer: Result<LayoutSizes, Refusal>) -> LayoutReply
     ensures { result ≡ layout_reply_of (layout_answer_of answer) }
 {
     match answer {
-        LayoutAnswer::Accepted {
-            width,
-            columns,
-            rows,
-            cells,
-            ranges,
-        } => LayoutReply {
+        Ok(sizes) => LayoutReply {
             number: 0,
             place: 0,
-            width: width.0,
-            columns,
-            rows,
-            cells,
-            ranges,
+            width: sizes.width.0,
+            columns: sizes.columns,
+            rows: sizes.rows,
+            cells: sizes.cells,
+            ranges: sizes.ranges,
         },
-        LayoutAnswer::Refused { number, place } => LayoutReply {
-            number,
-            place,
+        Err(refusal) => LayoutReply {
+            number: refusal.number(),
+            place: refusal.place(),
             width: 0,
             columns: 0,
             rows: 0,

@@ -4,7 +4,7 @@ ghost use Rattle.html_page.specs.Call.{answer_of};
 ghost use Rattle.replies.specs.PageReply.{page_reply_of, share_reply_of};
 
 use html::Share;
-use html_page::PageAnswer;
+use refusals::Refusal;
 
 // Number 0 is acceptance; then how many bytes the page has. A refusal has its number and place, and 0
 // for the bytes.
@@ -16,18 +16,18 @@ pub struct PageReply {
     pub bytes: usize,
 }
 
-pub fn page_reply(answer: PageAnswer) -> PageReply
+pub fn page_reply(answer: Result<usize, Refusal>) -> PageReply
     ensures { result ≡ page_reply_of (answer_of answer) }
 {
     match answer {
-        PageAnswer::Accepted(bytes) => PageReply {
+        Ok(bytes) => PageReply {
             number: 0,
             place: 0,
             bytes,
         },
-        PageAnswer::Refused { number, place } => PageReply {
-            number,
-            place,
+        Err(refusal) => PageReply {
+            number: refusal.number(),
+            place: refusal.place(),
             bytes: 0,
         },
     }

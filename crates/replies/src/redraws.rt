@@ -3,7 +3,8 @@ ghost use Rattle.std.specs.Prelude.{◌≡◌};
 ghost use Rattle.cm.specs.Late.{answer_of};
 ghost use Rattle.replies.specs.RedrawReply.{redraw_reply_of};
 
-use cm::draw::RedrawAnswer;
+use cm::draw::DrawingSizes;
+use refusals::Refusal;
 
 // Number 0 is acceptance; then how many lines and bytes were written. A refusal has its number and
 // place, and 0 for the rest.
@@ -16,19 +17,19 @@ pub struct RedrawReply {
     pub bytes: usize,
 }
 
-pub fn redraw_reply(answer: RedrawAnswer) -> RedrawReply
+pub fn redraw_reply(answer: Result<DrawingSizes, Refusal>) -> RedrawReply
     ensures { result ≡ redraw_reply_of (answer_of answer) }
 {
     match answer {
-        RedrawAnswer::Accepted { lines, bytes } => RedrawReply {
+        Ok(DrawingSizes { lines, bytes }) => RedrawReply {
             number: 0,
             place: 0,
             lines,
             bytes,
         },
-        RedrawAnswer::Refused { number, place } => RedrawReply {
-            number,
-            place,
+        Err(refusal) => RedrawReply {
+            number: refusal.number(),
+            place: refusal.place(),
             lines: 0,
             bytes: 0,
         },

@@ -3,7 +3,8 @@ ghost use Rattle.std.specs.Prelude.{◌≡◌};
 ghost use Rattle.line_ends.specs.Call.{add_answer_of, find_answer_of, remap_answer_of};
 ghost use Rattle.replies.specs.LineEndReply.{add_reply_of, find_reply_of, remap_reply_of};
 
-use line_ends::{AddAnswer, FindAnswer, RemapAnswer};
+use refusals::Refusal;
+use sourcepos::CellLineEnd;
 
 // Number 0 is acceptance; then how many ends the register holds. A refusal has its number and place,
 // and 0 for the count.
@@ -15,18 +16,18 @@ pub struct AddReply {
     pub count: usize,
 }
 
-pub fn add_reply(answer: AddAnswer) -> AddReply
+pub fn add_reply(answer: Result<usize, Refusal>) -> AddReply
     ensures { result ≡ add_reply_of (add_answer_of answer) }
 {
     match answer {
-        AddAnswer::Accepted(count) => AddReply {
+        Ok(count) => AddReply {
             number: 0,
             place: 0,
             count,
         },
-        AddAnswer::Refused { number, place } => AddReply {
-            number,
-            place,
+        Err(refusal) => AddReply {
+            number: refusal.number(),
+            place: refusal.place(),
             count: 0,
         },
     }
@@ -43,25 +44,25 @@ pub struct FindReply {
     pub eol: u32,
 }
 
-pub fn find_reply(answer: FindAnswer) -> FindReply
+pub fn find_reply(answer: Result<Option<u32>, Refusal>) -> FindReply
     ensures { result ≡ find_reply_of (find_answer_of answer) }
 {
     match answer {
-        FindAnswer::Found(eol) => FindReply {
+        Ok(Some(eol)) => FindReply {
             number: 0,
             place: 0,
             found: 1,
             eol,
         },
-        FindAnswer::None => FindReply {
+        Ok(None) => FindReply {
             number: 0,
             place: 0,
             found: 0,
             eol: 0,
         },
-        FindAnswer::Refused { number, place } => FindReply {
-            number,
-            place,
+        Err(refusal) => FindReply {
+            number: refusal.number(),
+            place: refusal.place(),
             found: 0,
             eol: 0,
         },
@@ -80,20 +81,20 @@ pub struct RemapReply {
     pub eol: u32,
 }
 
-pub fn remap_reply(answer: RemapAnswer) -> RemapReply
+pub fn remap_reply(answer: Result<CellLineEnd, Refusal>) -> RemapReply
     ensures { result ≡ remap_reply_of (remap_answer_of answer) }
 {
     match answer {
-        RemapAnswer::Accepted(end) => RemapReply {
+        Ok(end) => RemapReply {
             number: 0,
             place: 0,
             line: end.line,
             start: end.start,
             eol: end.eol,
         },
-        RemapAnswer::Refused { number, place } => RemapReply {
-            number,
-            place,
+        Err(refusal) => RemapReply {
+            number: refusal.number(),
+            place: refusal.place(),
             line: 0,
             start: 0,
             eol: 0,

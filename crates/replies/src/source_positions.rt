@@ -4,7 +4,9 @@ ghost use Rattle.positions.specs.Answer.{positions_of, cell_position_of};
 ghost use Rattle.replies.specs.PositionsReply.{positions_reply_of};
 ghost use Rattle.replies.specs.CellPositionReply.{cell_position_reply_of};
 
-use positions::{CellPositionAnswer, PositionsAnswer};
+use positions::PositionsFound;
+use positions::span::Sourcepos;
+use refusals::Refusal;
 
 // Number 0 is acceptance; then the table's position, and how many rows and cells were written. A
 // refusal has its number and place, and 0 for the rest.
@@ -21,23 +23,23 @@ pub struct PositionsReply {
     pub cells: usize,
 }
 
-pub fn positions_reply(answer: PositionsAnswer) -> PositionsReply
+pub fn positions_reply(answer: Result<PositionsFound, Refusal>) -> PositionsReply
     ensures { result ≡ positions_reply_of (positions_of answer) }
 {
     match answer {
-        PositionsAnswer::Accepted { table, rows, cells } => PositionsReply {
+        Ok(found) => PositionsReply {
             number: 0,
             place: 0,
-            start_line: table.start_line,
-            start_column: table.start_column,
-            end_line: table.end_line,
-            end_column: table.end_column,
-            rows,
-            cells,
+            start_line: found.table.start_line,
+            start_column: found.table.start_column,
+            end_line: found.table.end_line,
+            end_column: found.table.end_column,
+            rows: found.rows,
+            cells: found.cells,
         },
-        PositionsAnswer::Refused { number, place } => PositionsReply {
-            number,
-            place,
+        Err(refusal) => PositionsReply {
+            number: refusal.number(),
+            place: refusal.place(),
             start_line: 0,
             start_column: 0,
             end_line: 0,
@@ -61,11 +63,11 @@ pub struct CellPositionReply {
     pub end_column: u32,
 }
 
-pub fn cell_position_reply(answer: CellPositionAnswer) -> CellPositionReply
+pub fn cell_position_reply(answer: Result<Sourcepos, Refusal>) -> CellPositionReply
     ensures { result ≡ cell_position_reply_of (cell_position_of answer) }
 {
     match answer {
-        CellPositionAnswer::Accepted(position) => CellPositionReply {
+        Ok(position) => CellPositionReply {
             number: 0,
             place: 0,
             start_line: position.start_line,
@@ -73,9 +75,9 @@ pub fn cell_position_reply(answer: CellPositionAnswer) -> CellPositionReply
             end_line: position.end_line,
             end_column: position.end_column,
         },
-        CellPositionAnswer::Refused { number, place } => CellPositionReply {
-            number,
-            place,
+        Err(refusal) => CellPositionReply {
+            number: refusal.number(),
+            place: refusal.place(),
             start_line: 0,
             start_column: 0,
             end_line: 0,

@@ -3,7 +3,8 @@ ghost use Rattle.std.specs.Prelude.{◌≡◌};
 ghost use Rattle.table.specs.Call.{answer_of};
 ghost use Rattle.replies.specs.TableReply.{table_reply_of};
 
-use table::TableAnswer;
+use refusals::Refusal;
+use table::TableSizes;
 
 // Number 0 is acceptance; then how many columns, rows, cells, lines and bytes were written. A refusal
 // has its number and place, and 0 for the rest.
@@ -19,28 +20,22 @@ pub struct TableReply {
     pub bytes: usize,
 }
 
-pub fn table_reply(answer: TableAnswer) -> TableReply
+pub fn table_reply(answer: Result<TableSizes, Refusal>) -> TableReply
     ensures { result ≡ table_reply_of (answer_of answer) }
 {
     match answer {
-        TableAnswer::Accepted {
-            columns,
-            rows,
-            cells,
-            lines,
-            bytes,
-        } => TableReply {
+        Ok(sizes) => TableReply {
             number: 0,
             place: 0,
-            columns,
-            rows,
-            cells,
-            lines,
-            bytes,
+            columns: sizes.columns,
+            rows: sizes.rows,
+            cells: sizes.cells,
+            lines: sizes.lines,
+            bytes: sizes.bytes,
         },
-        TableAnswer::Refused { number, place } => TableReply {
-            number,
-            place,
+        Err(refusal) => TableReply {
+            number: refusal.number(),
+            place: refusal.place(),
             columns: 0,
             rows: 0,
             cells: 0,

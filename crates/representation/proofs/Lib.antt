@@ -7,6 +7,7 @@ pub mod LayoutPartsLaws
 pub mod TablePartsLaws
 -- What is written is the layout, and the table, that the drawing reads as.
 pub mod HeldLaws
+pub mod RectsHeld
 pub mod AgreeLaws
 pub mod TracedLaws
 pub mod TableEntryLaws

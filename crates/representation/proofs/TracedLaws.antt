@@ -1,6 +1,6 @@
 -- What the column and row lines, and the ranges, of a traced drawing are.
 use Prim.Native.Nat.{ℕ, ◌+◌, ◌≤◌, ◌<◌}
-use mathlib.Core.Path.{◌≡◌, refl, sym, ap, ◌∙◌}
+use mathlib.Core.Path.{◌≡◌, refl, sym, ◌∙◌}
 use mathlib.Core.List.Memᴰ
 use mathlib.Core.List.{List, [], ◌∷◌, Memᴰ}
 use native.Mathlib.Omega.{arith}
@@ -18,12 +18,12 @@ use Rattle.representation.specs.Arrays.{code_at, Holds}
 use Rattle.grid.proofs.ByteLaws.{slot-in-line}
 use Rattle.grid.proofs.CoverTheorems.{traced-covers}
 use Rattle.representation.proofs.HoldsLaws.{held-byte}
-use Rattle.grid.proofs.LayoutLaws.{column_lines-rise, row_lines-rise, left-line, top-line}
+use Rattle.grid.proofs.LayoutLaws.{top-line}
 use Rattle.representation.proofs.LayoutPartsLaws.{grid-accepted}
 use Rattle.grid.proofs.SeparatorLaws.{row-filled}
 use Rattle.grid.proofs.SlotLaws.{rows-length}
 use Rattle.representation.specs.Edges.{Collected, row_lines_below, column_lines_below}
-use Rattle.representation.specs.LayoutEntries.{lines_held, Rising, Inside, Numbered}
+use Rattle.representation.specs.LayoutEntries.{lines_held, Inside, Numbered}
 use Rattle.representation.specs.declared.Bounds.{Bounds}
 use Rattle.representation.proofs.AgreeLaws.{Laid}
 
@@ -55,9 +55,6 @@ module _ (lines : List Line) (rs : List Rect) (glyphs offsets : List ℕ) (e : g
 
   pub rows-some : 1 ≤ length (row_lines (grid_of lines) rs)
   rows-some = let r = cover-some (grid_of lines) rs grid_answer-cover in mem-some (row_lines (grid_of lines) rs) (top-line grid_answer-cover r.1)
-
-  pub columns-some : 1 ≤ length (column_lines (grid_of lines) rs)
-  columns-some = let r = cover-some (grid_of lines) rs grid_answer-cover in mem-some (column_lines (grid_of lines) rs) (left-line grid_answer-cover r.1)
 
   tall : (grid_of lines).height ≡ length lines
   unfolding grid_of
@@ -107,21 +104,6 @@ module _ (lines : List Line) (rs : List Rect) (glyphs offsets : List ℕ) (e : g
     pub lefts-held : lines_held lefts ≡ column_lines (grid_of lines) rs
     unfolding column_lines
     lefts-held = d.listed
-
-    pub tops-rise : Rising tops
-    tops-rise = record { room = c.room; few = omega (arith, c.few); rising = rw tops-held (row_lines-rise (grid_of lines) rs) }
-
-    pub lefts-rise : Rising lefts
-    lefts-rise = record { room = d.room; few = omega (arith, d.few); rising = rw lefts-held (column_lines-rise (grid_of lines) rs) }
-
-    pub tops-some : 1 ≤ tops.count
-    tops-some = omega (arith, c.counted, ap length (sym c.listed ∙ tops-held), rows-some)
-
-    pub lefts-some : 1 ≤ lefts.count
-    lefts-some = omega (arith, d.counted, ap length (sym d.listed ∙ lefts-held), columns-some)
-
-    pub lefts-small : (x : ℕ) → Memᴰ x (lines_held lefts) → x < 128
-    lefts-small x m = let h = range-mem 0 (grid_of lines).width x (select-mem _ _ (rw d.listed at m)).0 in omega arith
 
     pub grid_answer-numbered : (r : Rect) → Memᴰ r rs → Numbered tops lefts r
     grid_answer-numbered r m =

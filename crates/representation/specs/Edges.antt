@@ -15,9 +15,6 @@ pub record Marks (edges marks : List ℕ) : Type 0 where
   pub room : length marks ≡ 128
   pub marked : (x : ℕ) → x < 128 → get_or marks x 0 ≡ cond (any (eqb x) edges) 1 0
 
-abbrev pub marked_below : List ℕ → ℕ → List ℕ
-marked_below marks size = select (λ x. eqb (get_or marks x 0) 1) (up_to size)
-
 -- the lines of a list, all below size, with the number of each
 pub record Collected (list : List ℕ) (size : ℕ) (r : Bounds) : Type 0 where
   pub room : length r.lines ≡ 128

@@ -1,7 +1,6 @@
 -- What the layout call writes, from the arrays of slots and rectangles.
-use Rattle.std.specs.Prelude.{ℕ, ◌+◌, ◌-◌, ◌≤◌, ◌<◌, ◌≡◌, true, cond, length, get_or, take, drop, leb, ltb}
+use Rattle.std.specs.Prelude.{ℕ, ◌+◌, ◌-◌, ◌<◌, ◌≡◌, cond, get_or, take, drop, leb, ltb}
 use mathlib.Core.List.{List, [], ◌∷◌, flat_map}
-use Rattle.seq.specs.Lists.{neighbours}
 use Rattle.text.specs.Rule.{to_plus}
 use Rattle.grid.specs.Values.{Rect}
 use Rattle.grid.specs.Slots.{is_plus}
@@ -14,11 +13,6 @@ use Rattle.representation.specs.declared.Parts.{Parts}
 -- the lines that an array holds, in rising order
 abbrev pub lines_held : Bounds → List ℕ
 lines_held l = take l.count l.lines
-
-pub record Rising (l : Bounds) : Type 0 where
-  pub room : length l.lines ≡ 128
-  pub few : l.count ≤ 128
-  pub rising : neighbours ltb (lines_held l) ≡ true
 
 -- the alignment of the column that starts at x, from the trimmed alignment line a
 abbrev pub alignment_from : List ℕ → List ℕ → List ℕ → ℕ → ℕ → ℕ

@@ -1,5 +1,7 @@
 pub mod Sheet
 pub mod Arrays
+pub mod Lent
+pub mod Traced
 pub mod Reach
 pub mod LayoutParts
 pub mod TableParts

@@ -3,6 +3,12 @@
 // No promise is read here.
 #![tactic(auto)]
 
+pub mod lent;
+pub mod rect;
+pub mod rects;
+
+ghost use Rattle.std.specs.Prelude.{ℕ, ◌+◌, ◌-◌, ◌<◌, ◌≤◌, ◌≡◌, length, get_or};
+
 // The column (row) lines in order, the first count entries of `lines`; and for each column (line)
 // how many of them come before it.
 #[derive(Clone, Copy)]
@@ -10,10 +16,34 @@ pub struct Bounds {
     pub lines: [u8; 128],
     pub index: [u8; 128],
     pub count: usize,
+    pub ghost room: { length lines ≡ 128 },
+    pub ghost few: { count ≤ 128 },
+    pub ghost rising: { (k : ℕ) → k + 1 < count → get_or lines k 0 < get_or lines (k + 1) 0 },
+    pub ghost low: { (k : ℕ) → k < count → get_or lines k 0 < 128 },
+}
+
+impl Bounds {
+    // How many columns (rows) lie between the lines.
+    pub fn bands(&self) -> usize
+        ensures { result ≡ self.now.count - 1 }
+    {
+        self.count.saturating_sub(1)
+    }
+
+    // The two lines between which column (row) k lies.
+    pub fn band(&self, k: usize) -> (usize, usize)
+        requires { k + 1 < self.now.count }
+        ensures from { result.0 ≡ get_or self.now.lines k 0 }
+        ensures to { result.1 ≡ get_or self.now.lines (k + 1) 0 }
+        ensures apart { result.0 < result.1 }
+        ensures low { result.1 < 128 }
+    {
+        (usize::from(self.lines[k]), usize::from(self.lines[k + 1]))
+    }
 }
 
 // Head rows lie above line head, 0 where there is no Head; Foot rows from line foot on, 128 where
-// there is no Foot.
+// there is no Foot. Bounds and no Options: a row is only compared with them.
 #[derive(Clone, Copy)]
 pub struct Parts {
     pub head: usize,

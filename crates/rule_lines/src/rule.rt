@@ -6,56 +6,25 @@ ghost use Rattle.text.specs.Rule.{to_plus, drop_leading_colon, drop_trailing_col
 pub fn segment_end(rest: &[u8]) -> usize
     ensures { result ≡ length (to_plus rest.now) }
 {
-    let mut i = 0;
-    while i < rest.len() {
-        if rest[i] == b'+' {
-            return i;
-        }
-        i += 1;
-    }
-    i
+    rest.iter().position(|b| *b == b'+').unwrap_or(rest.len())
 }
 
 fn strip_leading_colon(segment: &[u8]) -> &[u8]
     ensures { result.now ≡ drop_leading_colon segment.now }
 {
-    if segment.len() == 0 {
-        return segment;
-    }
-    if segment[0] == b':' {
-        return &segment[1..];
-    }
-    segment
+    segment.strip_prefix(b":").unwrap_or(segment)
 }
 
 fn strip_trailing_colon(segment: &[u8]) -> &[u8]
     ensures { result.now ≡ drop_trailing_colon segment.now }
 {
-    let n = segment.len();
-    if n == 0 {
-        return segment;
-    }
-    let last = n - 1;
-    if segment[last] == b':' {
-        return &segment[..last];
-    }
-    segment
+    segment.strip_suffix(b":").unwrap_or(segment)
 }
 
 fn is_filled(segment: &[u8], fill: u8) -> bool
     ensures { result ≡ fills fill segment.now }
 {
-    if segment.len() == 0 {
-        return false;
-    }
-    let mut i = 0;
-    while i < segment.len() {
-        if segment[i] != fill {
-            return false;
-        }
-        i += 1;
-    }
-    true
+    !segment.is_empty() && segment.iter().all(|b| *b == fill)
 }
 
 fn is_segment(segment: &[u8], fill: u8) -> bool
@@ -67,14 +36,11 @@ fn is_segment(segment: &[u8], fill: u8) -> bool
 pub fn is_rule(text: &[u8], fill: u8) -> bool
     ensures { result ≡ is_rule fill text.now }
 {
-    if text.len() == 0 {
+    let Some(mut rest) = text.strip_prefix(b"+") else {
         return false;
-    }
-    if text[0] != b'+' {
-        return false;
-    }
-    let mut rest = &text[1..];
-    while 0 < rest.len() {
+    };
+    // A while: segments have different lengths.
+    while !rest.is_empty() {
         let end = segment_end(rest);
         if rest.len() <= end {
             return false;

@@ -1,32 +1,33 @@
 // Where the borders of columns and rows stand.
-ghost use Rattle.std.specs.Prelude.{ℕ, ◌+◌, ◌*◌, ◌≤◌, ◌<◌, ◌≡◌, map, length, get_or, take, replicate};
-ghost use Rattle.grid.specs.Flat.{code_alignment, columns_of_array};
+ghost use Rattle.std.specs.Prelude.{◌+◌, ◌*◌, ◌≤◌, ◌≡◌, map, length, take, replicate};
+ghost use Rattle.grid.specs.Flat.{columns_of_array};
 ghost use Rattle.drawing.specs.Sizes.{least_width, start_width, fit as fitted, offsets as offsets_of};
 ghost use Rattle.sizes.specs.Needs.{needs_in, Spanned, EachAtMost};
 
 use crate::fit::fit;
-use crate::larger;
+use grid::TableAlignment;
+use table_checks::column_entry::ColumnEntry;
 
 // At least 1, or 3 if aligned.
-fn least_width(alignment: u16) -> usize
-    requires { alignment < 4 }
-    ensures { result ≡ least_width (code_alignment alignment) }
+fn least_width(alignment: TableAlignment) -> usize
+    ensures { result ≡ least_width alignment }
 {
-    if alignment == 0 { 1 } else { 3 }
+    match alignment {
+        TableAlignment::None => 1,
+        _ => 3,
+    }
 }
 
 // The widths at which columns start: the declared ones, unless they are too small.
 fn start_widths(cols: &[u16], columns: usize) -> [usize; 128]
-    requires columns_bound { (columns ≤ 127) × (length cols.now ≡ 2 * columns) }
-    requires by_index { (k : ℕ) → k < columns → get_or cols.now (2 * k) 0 < 4 }
+    requires { (columns ≤ 127) × (length cols.now ≡ 2 * columns) }
     ensures result_value { take columns result ≡ map start_width (columns_of_array columns cols.now) }
     ensures result_len { (length result ≡ 128) × EachAtMost 65535 result }
 {
     let mut sizes = [1usize; 128];
-    let mut k = 0;
-    while k < columns {
-        sizes[k] = larger(cols[2 * k + 1] as usize, least_width(cols[2 * k]));
-        k += 1;
+    for k in 0..columns {
+        let column = ColumnEntry::at(cols, k);
+        sizes[k] = (column.width as usize).max(least_width(column.alignment));
     }
     sizes
 }
@@ -37,10 +38,8 @@ fn offsets(sizes: [usize; 128], count: usize) -> [usize; 128]
     ensures { (length result ≡ 128) × (take (count + 1) result ≡ offsets_of (take count sizes)) }
 {
     let mut at = [0usize; 128];
-    let mut i = 0;
-    while i < count {
+    for i in 0..count {
         at[i + 1] = at[i] + sizes[i] + 1;
-        i += 1;
     }
     at
 }
@@ -54,7 +53,6 @@ pub fn column_offsets(
     wides: &[u16],
 ) -> [usize; 128]
     requires columns_bound { (columns ≤ 127) × (length cols.now ≡ 2 * columns) }
-    requires by_index { (k : ℕ) → k < columns → get_or cols.now (2 * k) 0 < 4 }
     requires spanned { Spanned n 1 2 cells.now columns × (n ≤ length wides.now) }
     ensures { let widths = fitted (map start_width (columns_of_array columns cols.now)) (needs_in n 1 2 cells.now wides.now) in
         (length result ≡ 128) × (take (columns + 1) result ≡ offsets_of widths) }

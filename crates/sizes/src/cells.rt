@@ -7,7 +7,6 @@ ghost use Rattle.representation.specs.TableIn.{counts_in};
 ghost use Rattle.sizes.specs.Lines.{lines_at, Measurable};
 ghost use Rattle.sizes.specs.Cells.{Counted};
 
-use crate::larger;
 use crate::lines::line_columns;
 use text::Column;
 
@@ -25,16 +24,14 @@ fn cell_size(text: &[u8], starts: &[u16], ends: &[u16], first: usize, count: usi
         ((result.lines ≡ length lines) × (result.lines ≤ count)) × ((result.columns.0 ≡ widest lines) × (result.columns.0 ≤ 2048)) }
 {
     let mut lines = 0;
-    let mut columns = 0;
-    let mut i = 0;
-    while i < count {
+    let mut columns: usize = 0;
+    for i in 0..count {
         let from = starts[first + i] as usize;
         let to = ends[first + i] as usize;
-        columns = larger(columns, line_columns(&text[from..to]).0);
+        columns = columns.max(line_columns(&text[from..to]).0);
         if from < to {
             lines = i + 1;
         }
-        i += 1;
     }
     CellSize {
         lines,
@@ -61,14 +58,12 @@ pub fn measure_cells(
         counted firsts.new heights.new wides.new }
 {
     let mut first = 0;
-    let mut k = 0;
-    while k < n {
+    for k in 0..n {
         let count = cells[5 * k + 4] as usize;
         let size = cell_size(text, starts, ends, first, count);
         firsts[k] = first as u16;
         heights[k] = size.lines as u16;
         wides[k] = (size.columns.0 + 1) as u16;
         first += count;
-        k += 1;
     }
 }

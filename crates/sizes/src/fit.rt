@@ -4,8 +4,6 @@ ghost use Rattle.seq.specs.Lists.{sum};
 ghost use Rattle.drawing.specs.Sizes.{raise_single, add_lack, in_turn, fit as fitted};
 ghost use Rattle.sizes.specs.Needs.{needs_in, Spanned, EachAtMost};
 
-use crate::larger;
-
 // Cells of one column, or row, raise it to what they need. A cell's first column and its number of
 // columns stand at from_at and span_at of its entry.
 fn raise_singles(
@@ -22,14 +20,11 @@ fn raise_singles(
     ensures result_len { (length result ≡ 128) × EachAtMost 65535 result }
 {
     let mut raised = sizes;
-    let mut k = 0;
-    while k < n {
+    for k in 0..n {
         let from = cells[5 * k + from_at] as usize;
-        let size = larger(raised[from], needs[k] as usize);
         if cells[5 * k + span_at] == 1 {
-            raised[from] = size;
+            raised[from] = raised[from].max(needs[k] as usize);
         }
-        k += 1;
     }
     raised
 }
@@ -40,10 +35,8 @@ fn total(sizes: [usize; 128], from: usize, span: usize) -> usize
     ensures { (result ≡ sum (take span (drop from sizes))) × (result ≤ 65535 * 1025 * 128) }
 {
     let mut sum = 0;
-    let mut i = 0;
-    while i < span {
+    for i in 0..span {
         sum += sizes[from + i];
-        i += 1;
     }
     sum
 }
@@ -64,8 +57,7 @@ fn add_lacks(
     ensures result_len { (length result ≡ 128) × EachAtMost (65535 * 1025) result }
 {
     let mut grown = sizes;
-    let mut k = 0;
-    while k < n {
+    for k in 0..n {
         let from = cells[5 * k + from_at] as usize;
         let span = cells[5 * k + span_at] as usize;
         let need = needs[k] as usize;
@@ -73,7 +65,6 @@ fn add_lacks(
         if have < need {
             grown[from + span - 1] += need - have;
         }
-        k += 1;
     }
     grown
 }

@@ -6,7 +6,7 @@ pub mod cells;
 pub mod fit;
 pub mod lines;
 
-ghost use Rattle.std.specs.Prelude.{ℕ, max, ◌≤◌, ◌≡◌, length};
+ghost use Rattle.std.specs.Prelude.{ℕ, ◌≤◌, ◌≡◌, length};
 ghost use Rattle.representation.specs.TableIn.{Tabled};
 ghost use Rattle.sizes.specs.Measured.{Measured};
 
@@ -20,13 +20,6 @@ use crate::lines::trim_lines;
 pub struct Offsets {
     pub xs: [usize; 128],
     pub ys: [usize; 128],
-}
-
-// The larger of two numbers.
-pub fn larger(a: usize, b: usize) -> usize
-    ensures { result ≡ max a b }
-{
-    if a < b { b } else { a }
 }
 
 // Where the borders of a checked table stand. On the way each line's start and end and each cell's

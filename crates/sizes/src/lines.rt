@@ -15,14 +15,12 @@ pub fn trim_lines(lengths: &[u16], text: &[u8], starts: &mut [u16], ends: &mut [
     ensures { Trimmed lengths.now text.now starts.new ends.new }
 {
     let mut at = 0;
-    let mut i = 0;
-    while i < lengths.len() {
-        let next = at + lengths[i] as usize;
+    for (i, length) in lengths.iter().enumerate() {
+        let next = at + *length as usize;
         let line = trim_end(&text[at..next]);
         starts[i] = at as u16;
         ends[i] = (at + line.len()) as u16;
         at = next;
-        i += 1;
     }
 }
 

@@ -3,3 +3,4 @@ pub mod Replaced
 pub mod Line
 pub mod Scan
 pub mod Reaching
+pub mod Glyphs

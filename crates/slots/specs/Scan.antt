@@ -1,5 +1,5 @@
 -- What scanning leaves: while a line's characters are checked, its slots and their number are written down.
-use Rattle.std.specs.Prelude.{ℕ, ◌+◌, ◌*◌, ◌≤◌, ◌<◌, ◌≡◌, Bool, true, false, cond, List, ltb, length, get_or, take, drop, replicate}
+use Rattle.std.specs.Prelude.{ℕ, ◌+◌, ◌*◌, ◌≤◌, ◌<◌, ◌≡◌, Bool, true, false, cond, List, ltb, length, get_or, take, drop, replicate, Option, Some, None}
 use Rattle.text.specs.declared.Column.{Column}
 use Rattle.text.specs.Utf8.{chars_from, char_indices, well_from, well_formed, plain}
 use Rattle.text.specs.Trim.{trim_end}
@@ -8,8 +8,6 @@ use Rattle.grid.specs.Slots.{Slot, glyph_of, slots_from}
 use Rattle.grid.specs.LayoutCall.{slot_space}
 use Rattle.representation.specs.Arrays.{glyph_code, glyph_codes, slot_bytes}
 use Rattle.slots.specs.Replaced.{replaced}
-use Rattle.slots.specs.declared.scan.Scanned.{Scanned}
-use Rattle.slots.specs.declared.scan.Scanned.TheVariants.{Columns, Outside}
 
 -- the slots of a trimmed line that is no rule
 abbrev pub scanned_slots : List ℕ → ℕ → List Slot
@@ -37,15 +35,15 @@ pub record LineLeft (slots : List Slot) (at : ℕ) (glyphs offsets : List ℕ) :
   pub offsets_left : length slots ≤ 128 → take (length slots) (drop at offsets) ≡ slot_bytes slots
 
 -- a trimmed line that is UTF-8 of the set takes its columns, and leaves its slots
-pub record LineScanned (line : List ℕ) (column at : ℕ) (glyphs offsets glyphs' offsets' : List ℕ) (r : Scanned) : Type 0 where
+pub record LineScanned (line : List ℕ) (column at : ℕ) (glyphs offsets glyphs' offsets' : List ℕ) (r : Option Column) : Type 0 where
   pub glyphs_kept : length glyphs' ≡ length glyphs
   pub offsets_kept : length offsets' ≡ length offsets
   pub glyphs_before : take at glyphs' ≡ take at glyphs
   pub offsets_before : take at offsets' ≡ take at offsets
-  pub well : (n : Column) → r ≡ Columns n → well_formed line ≡ true
-  pub counted : (n : Column) → r ≡ Columns n → n.0 ≡ length (scanned_slots line column)
-  pub left : (n : Column) → r ≡ Columns n → LineLeft (scanned_slots line column) at glyphs' offsets'
-  pub outside : r ≡ Outside → well_formed line ≡ false
+  pub well : (n : Column) → r ≡ Some n → well_formed line ≡ true
+  pub counted : (n : Column) → r ≡ Some n → n.0 ≡ length (scanned_slots line column)
+  pub left : (n : Column) → r ≡ Some n → LineLeft (scanned_slots line column) at glyphs' offsets'
+  pub outside : r ≡ None → well_formed line ≡ false
 
 -- how many slots, more than 128 as 129; 255 of a plain line, whose slots are its bytes
 abbrev pub clipped : ℕ → ℕ

@@ -1,10 +1,11 @@
 // Slots, line by line.
-ghost use Rattle.std.specs.Prelude.{ℕ, ◌+◌, ◌≤◌, ◌<◌, ◌≡◌, cond, ◌&&◌, ltb, List, ◌∷◌, [], ◌++◌, length};
+ghost use Rattle.std.specs.Prelude.{ℕ, ◌+◌, ◌<◌, ◌≡◌, ◌&&◌, ltb, List, ◌∷◌, [], ◌++◌};
 ghost use Rattle.text.specs.Rule.{is_rule};
 ghost use Rattle.slots.specs.Filling.{NextRoom, FilledNext, separator_lines, Fillable, FilledAll};
 
+use crate::Separators;
 use crate::line::fill_line;
-use crate::{Filled, Separators};
+use refusals::Refusal;
 use representation::STRIDE;
 use rule_lines::rule::is_rule;
 use rule_lines::trim::trim_end;
@@ -13,24 +14,18 @@ use text::Column;
 fn is_separator(line: &[u8], y: usize) -> bool
     ensures { result ≡ (ltb 0 y && is_rule 0x3d line.now) }
 {
-    (0 < y) & is_rule(line, b'=')
+    0 < y && is_rule(line, b'=')
 }
 
-// The separators with line y at their end, where it is one.
-fn noted(separators: Separators, separator: bool, y: usize) -> Separators
-    requires { (separators.count < 128) × (length separators.lines ≡ 128) × (y < 128) }
-    ensures { (result.count ≤ separators.count + 1) × (length result.lines ≡ 128)
-        × (separator_lines result ≡ separator_lines separators ++ cond separator (y ∷ []) []) }
+// One separator more, line y.
+fn note(separators: &mut Separators, y: usize)
+    requires { (separators.old.count < 128) × (y < 128) }
+    ensures { (separators.new.count ≡ separators.old.count + 1)
+        × (separator_lines separators.new ≡ separator_lines separators.old ++ (y ∷ [])) }
 {
-    if separator {
-        let mut more = separators;
-        let at = more.count;
-        more.lines[at] = y as u8;
-        more.count = at + 1;
-        more
-    } else {
-        separators
-    }
+    let at = separators.count;
+    separators.lines[at] = y as u8;
+    separators.count = at + 1;
 }
 
 // Do the slots of line y fill the width? It is noted where it is a separator.
@@ -39,30 +34,22 @@ fn fill_next(
     y: usize,
     width: Column,
     count: u8,
-    separators: Separators,
+    separators: &mut Separators,
     glyphs: &mut [u8],
     offsets: &mut [u16],
-) -> Filled
-    requires { NextRoom text.now y width.0 count separators glyphs.old offsets.old }
-    ensures { FilledNext text.now y width.0 count separators
-        glyphs.old offsets.old glyphs.new offsets.new result }
+) -> bool
+    requires { NextRoom text.now y width.0 count separators.old glyphs.old offsets.old }
+    ensures { FilledNext text.now y width.0 count separators.old
+        glyphs.old offsets.old separators.new glyphs.new offsets.new result }
 {
     let line = trim_end(text);
     let separator = is_separator(line, y);
-    let full = fill_line(
-        line,
-        (y == 0) | separator,
-        count,
-        y * STRIDE,
-        width,
-        glyphs,
-        offsets,
-    );
-    Filled {
-        full,
-        place: y,
-        separators: noted(separators, separator, y),
+    let rule = y == 0 || separator;
+    let full = fill_line(line, rule, count, y * STRIDE, width, glyphs, offsets);
+    if separator {
+        note(separators, y);
     }
+    full
 }
 
 // The slots of all lines, of which `counts` says what scanning left. The lines' columns were used there.
@@ -73,7 +60,7 @@ pub fn fill(
     counts: &[u8],
     glyphs: &mut [u8],
     offsets: &mut [u16],
-) -> Filled
+) -> Result<Separators, Refusal>
     requires { (columns : List ℕ) × Fillable lengths.now columns text.now width.0 counts.now glyphs.old offsets.old }
     ensures { FilledAll lengths.now text.now width.0 counts.now
         glyphs.old offsets.old glyphs.new offsets.new result }
@@ -83,28 +70,13 @@ pub fn fill(
         count: 0,
     };
     let mut at = 0;
-    let mut y = 0;
-    while y < lengths.len() {
-        let end = at + lengths[y] as usize;
-        let filled = fill_next(
-            &text[at..end],
-            y,
-            width,
-            counts[y],
-            separators,
-            glyphs,
-            offsets,
-        );
-        if !filled.full {
-            return filled;
+    for (y, length) in lengths.iter().enumerate() {
+        let end = at + *length as usize;
+        let line = &text[at..end];
+        if !fill_next(line, y, width, counts[y], &mut separators, glyphs, offsets) {
+            return Err(Refusal::WrongWidth { line: y });
         }
-        separators = filled.separators;
         at = end;
-        y += 1;
     }
-    Filled {
-        full: true,
-        place: 0,
-        separators,
-    }
+    Ok(separators)
 }

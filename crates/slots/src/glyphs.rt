@@ -4,24 +4,47 @@ ghost use Rattle.std.specs.Prelude.{◌+◌, ◌≤◌, ◌<◌, ◌≡◌, leng
 ghost use Rattle.seq.specs.Lists.{up_to};
 ghost use Rattle.grid.specs.Slots.{glyph_of};
 ghost use Rattle.representation.specs.Arrays.{glyph_code};
+ghost use Rattle.slots.specs.Glyphs.{glyph_in, IsGlyphCode};
 ghost use Rattle.slots.specs.Replaced.{replaced, byte_codes};
 
 use representation::{DASH, OTHER, PIPE, PLUS};
 use text::ByteAt;
 
-fn glyph(rule: bool, value: u32) -> u8
-    ensures { result ≡ glyph_code (glyph_of rule value) }
-{
-    if value == 0x2b {
-        return PLUS;
+// What a slot shows.
+#[derive(Clone, Copy, Debug, PartialEq, Eq)]
+pub enum Glyph {
+    Other,
+    Dash,
+    Pipe,
+    Plus,
+}
+
+impl Glyph {
+    // A rule's characters are dashes but for `+`.
+    pub fn of(rule: bool, value: u32) -> Self
+        ensures { glyph_in result ≡ glyph_of rule value }
+    {
+        match value {
+            0x2b => Glyph::Plus,
+            _ if rule => Glyph::Dash,
+            0x2d => Glyph::Dash,
+            0x7c => Glyph::Pipe,
+            _ => Glyph::Other,
+        }
     }
-    if rule | (value == 0x2d) {
-        return DASH;
+}
+
+impl From<Glyph> for u8 {
+    ghost from_gives = { IsGlyphCode };
+
+    fn from(glyph: Glyph) -> u8 {
+        match glyph {
+            Glyph::Other => OTHER,
+            Glyph::Dash => DASH,
+            Glyph::Pipe => PIPE,
+            Glyph::Plus => PLUS,
+        }
     }
-    if value == 0x7c {
-        return PIPE;
-    }
-    OTHER
 }
 
 // Writes count slots of one character from index at on.
@@ -38,18 +61,8 @@ pub fn put_slots(
     ensures glyphs_after { glyphs.new ≡ replaced glyphs.old at (replicate count (glyph_code (glyph_of rule value))) }
     ensures offsets_after { offsets.new ≡ replaced offsets.old at (replicate count byte.0) }
 {
-    let mut i = 0;
-    while i < count {
-        glyphs[at + i] = glyph(rule, value);
-        offsets[at + i] = byte.0 as u16;
-        i += 1;
-    }
-}
-
-pub fn widened(b: u8) -> u32
-    ensures { result ≡ b }
-{
-    b as u32
+    glyphs[at..at + count].fill(u8::from(Glyph::of(rule, value)));
+    offsets[at..at + count].fill(byte.0 as u16);
 }
 
 // Writes a slot for each byte of a line from index at on.
@@ -59,12 +72,8 @@ pub fn fill_plain(line: &[u8], rule: bool, at: usize, glyphs: &mut [u8], offsets
     ensures glyphs_after { glyphs.new ≡ replaced glyphs.old at (byte_codes rule line.now) }
     ensures offsets_after { offsets.new ≡ replaced offsets.old at (up_to (length line.now)) }
 {
-    let mut byte = 0;
-    let mut n = 0;
-    while byte < line.len() {
-        glyphs[at + n] = glyph(rule, widened(line[byte]));
-        offsets[at + n] = byte as u16;
-        byte += 1;
-        n += 1;
+    for (n, b) in line.iter().enumerate() {
+        glyphs[at + n] = u8::from(Glyph::of(rule, *b as u32));
+        offsets[at + n] = n as u16;
     }
 }

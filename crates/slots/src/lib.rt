@@ -8,17 +8,13 @@ pub mod map;
 pub mod reach;
 pub mod scan;
 
+ghost use Rattle.std.specs.Prelude.{◌≤◌, ◌≡◌, length};
+
 // The part separators: the first count entries are their lines.
 #[derive(Clone, Copy)]
 pub struct Separators {
     pub lines: [u8; 128],
     pub count: usize,
-}
-
-// Whether every line fills the width, else the first that does not; and the separators.
-#[derive(Clone, Copy)]
-pub struct Filled {
-    pub full: bool,
-    pub place: usize,
-    pub separators: Separators,
+    pub ghost few: { count ≤ 128 },
+    pub ghost room: { length lines ≡ 128 },
 }

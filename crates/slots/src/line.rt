@@ -12,8 +12,8 @@ use text::Column;
 // column of a number of bytes.
 pub fn plain_width(line: &[u8]) -> Column
     requires { plain line.now ≡ true }
-    ensures result_value { result.0 ≡ length line.now }
-    ensures result_value_2 { (rule : Bool) (column : ℕ) → result.0 ≡ length (slots_from rule column (char_indices line.now)) }
+    ensures bytes { result.0 ≡ length line.now }
+    ensures slots { (rule : Bool) (column : ℕ) → result.0 ≡ length (slots_from rule column (char_indices line.now)) }
 {
     Column(line.len())
 }
@@ -34,7 +34,7 @@ pub fn fill_line(
     ensures { FilledLine line.now rule count at width.0
         glyphs.old offsets.old glyphs.new offsets.new result }
 {
-    if rule | (count == PLAIN) {
+    if rule || count == PLAIN {
         let columns = plain_width(line);
         if columns.0 != width.0 {
             return false;

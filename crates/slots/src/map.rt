@@ -6,16 +6,10 @@ ghost use Rattle.representation.specs.Arrays.{code_at};
 use representation::STRIDE;
 use text::{ByteAt, Column};
 
-fn widened(n: u16) -> usize
-    ensures { (result ≡ n) × (result < 65536) }
-{
-    n as usize
-}
-
 // Every read of the map is this one.
 pub fn byte_at(offsets: &[u16], y: usize, x: Column) -> ByteAt
     requires { (slot_space ≤ length offsets.now) × (y < 128) × (x.0 < 128) }
     ensures { (result.0 ≡ code_at offsets.now y x.0) × (result.0 < 65536) }
 {
-    ByteAt(widened(offsets[y * STRIDE + x.0]))
+    ByteAt(offsets[y * STRIDE + x.0] as usize)
 }

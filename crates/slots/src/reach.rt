@@ -33,11 +33,9 @@ fn has_run(glyphs: &[u8], y: usize, width: usize) -> bool
     ensures { result ≡ false → NoRun width y glyphs.now }
 {
     let mut any = false;
-    let mut x = 1;
-    while x < width {
+    for x in 1..width {
         let at = y * STRIDE + x;
-        any = any | (is_horizontal(glyphs[at - 1]) & is_horizontal(glyphs[at]));
-        x += 1;
+        any |= is_horizontal(glyphs[at - 1]) & is_horizontal(glyphs[at]);
     }
     any
 }
@@ -47,11 +45,9 @@ fn reach_runs(glyphs: &[u8], y: usize, width: usize, right: &mut [u8])
     requires { (y < 128) × LineRoom width y glyphs.now right.old }
     ensures { LineRight width y glyphs.now right.old right.new }
 {
-    let mut x = width;
     let mut last = 0;
     let mut goes_on = false;
-    while 0 < x {
-        x -= 1;
+    for x in (0..width).rev() {
         let horizontal = is_horizontal(glyphs[y * STRIDE + x]);
         last = run_end(horizontal & goes_on, last, x as u8);
         right[y * STRIDE + x] = last;
@@ -64,10 +60,8 @@ fn reach_self(y: usize, width: usize, right: &mut [u8])
     requires { (y < 128) × (width ≤ 128) × (y * 128 + 128 ≤ length right.old) }
     ensures { LineOf width y (λ x. x) right.old right.new }
 {
-    let mut x = 0;
-    while x < width {
+    for x in 0..width {
         right[y * STRIDE + x] = x as u8;
-        x += 1;
     }
 }
 
@@ -89,10 +83,8 @@ pub fn reach_right(glyphs: &[u8], height: usize, width: usize, right: &mut [u8])
     ensures right_len_unchanged { length right.new ≡ length right.old }
     ensures reach_right { ReachRight height width glyphs.now right.new }
 {
-    let mut y = 0;
-    while y < height {
+    for y in 0..height {
         reach_right_line(glyphs, y, width, right);
-        y += 1;
     }
 }
 
@@ -109,11 +101,9 @@ fn step_up(glyphs: &[u8], y: usize, width: usize, ends: &mut [u8])
     requires { (y + 1 < 128) × (width ≤ 128) × ((y + 1) * 128 + 128 ≤ length glyphs.now) × (width ≤ length ends.old) }
     ensures { Stepped width y glyphs.now ends.old ends.new }
 {
-    let mut x = 0;
-    while x < width {
+    for x in 0..width {
         let on = joins_below(glyphs, y * STRIDE + x);
         ends[x] = run_end(on, ends[x], y as u8);
-        x += 1;
     }
 }
 
@@ -121,11 +111,8 @@ fn put_line(ends: &[u8], y: usize, width: usize, down: &mut [u8])
     requires { (y < 128) × (width ≤ 128) × (width ≤ length ends.now) × (y * 128 + 128 ≤ length down.old) }
     ensures { LineOf width y (λ x. get_or ends.now x 0) down.old down.new }
 {
-    let mut x = 0;
-    while x < width {
-        down[y * STRIDE + x] = ends[x];
-        x += 1;
-    }
+    let start = y * STRIDE;
+    down[start..start + width].copy_from_slice(&ends[..width]);
 }
 
 // From the last line up. What is known of a line stands in an array of its own: nothing else can change
@@ -138,11 +125,10 @@ pub fn reach_down(glyphs: &[u8], height: usize, width: usize, down: &mut [u8])
     if height == 0 {
         return;
     }
-    let mut y = height - 1;
-    let mut ends = [y as u8; 128];
-    put_line(&ends, y, width, down);
-    while 0 < y {
-        y -= 1;
+    let last = height - 1;
+    let mut ends = [last as u8; 128];
+    put_line(&ends, last, width, down);
+    for y in (0..last).rev() {
         step_up(glyphs, y, width, &mut ends);
         put_line(&ends, y, width, down);
     }

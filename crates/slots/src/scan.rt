@@ -3,7 +3,7 @@ ghost use Rattle.std.specs.Prelude.{◌+◌, ◌≤◌, ◌<◌, ◌≡◌, true
 ghost use Rattle.text.specs.Utf8.{plain};
 ghost use Rattle.slots.specs.Scan.{PutWithin, MarksPassed, LineScanned, clipped as clipped_of, ScanRoom, NextScanned};
 
-use crate::glyphs::{put_slots, widened};
+use crate::glyphs::put_slots;
 use characters::known::span_in_set;
 use characters::{in_set, within};
 use representation::STRIDE;
@@ -12,15 +12,9 @@ use text::{ByteAt, Column};
 use utf8::line_text::is_plain;
 use utf8::several::{is_mark, is_three, is_two};
 
-// Stands for the number of columns of a plain line, which has a slot for each byte.
+// Stands for the number of columns of a plain line, which has a slot for each byte. No enum: the
+// numbers lie in the working space that a caller lends, as bytes.
 pub const PLAIN: u8 = 255;
-
-// The columns that a line takes, or that it is not UTF-8 of the set.
-#[derive(Clone, Copy)]
-pub enum Scanned {
-    Columns(Column),
-    Outside,
-}
 
 // Writes count slots of one character from column n of the line at `at` on, where they fit.
 fn put_within(
@@ -47,6 +41,7 @@ fn marks_end(line: &[u8], at: ByteAt) -> ByteAt
     ensures { MarksPassed line.now (at.0 + 2) result.0 }
 {
     let mut byte = at.0 + 2;
+    // A while: each turn goes over the two bytes of a mark.
     while byte < line.len() {
         if !is_mark(line, ByteAt(byte)) {
             return ByteAt(byte);
@@ -56,7 +51,7 @@ fn marks_end(line: &[u8], at: ByteAt) -> ByteAt
     ByteAt(byte)
 }
 
-// The columns of a trimmed line, whose slots go to the arrays from index `at` on as far as there are 128. Past
+// The columns of a trimmed line that is UTF-8 of the set, whose slots go to the arrays from index `at` on as far as there are 128. Past
 // ASCII a character's first byte says its bytes, its columns and its glyph.
 fn scan_line(
     line: &[u8],
@@ -64,7 +59,7 @@ fn scan_line(
     at: usize,
     glyphs: &mut [u8],
     offsets: &mut [u16],
-) -> Scanned
+) -> Option<Column>
     requires { (column.0 ≤ 255) × (length line.now ≤ 512) × (at + 128 ≤ length glyphs.old) × (at + 128 ≤ length offsets.old) }
     ensures { LineScanned line.now column.0 at
         glyphs.old offsets.old glyphs.new offsets.new result }
@@ -72,15 +67,16 @@ fn scan_line(
     let first = column.0;
     let mut byte = 0;
     let mut n = 0;
+    // A while: characters have different sizes.
     while byte < line.len() {
-        let a = widened(line[byte]);
+        let a = line[byte] as u32;
         if within(0x20, 0x7e, a) {
             put_within(glyphs, offsets, at, Column(n), 1, a, ByteAt(byte));
             byte += 1;
             n += 1;
         } else if a < 0x80 {
             if !in_set(a) {
-                return Scanned::Outside;
+                return None;
             }
             let place = first + n;
             let count = span_in_set(a, Column(place));
@@ -89,34 +85,33 @@ fn scan_line(
             n += count;
         } else if a < 0xcc {
             if !is_two(line, ByteAt(byte)) {
-                return Scanned::Outside;
+                return None;
             }
             put_within(glyphs, offsets, at, Column(n), 1, a, ByteAt(byte));
             byte += 2;
             n += 1;
         } else if a < 0xe0 {
             if !is_two(line, ByteAt(byte)) {
-                return Scanned::Outside;
+                return None;
             }
             byte = marks_end(line, ByteAt(byte)).0;
         } else {
             if !is_three(line, ByteAt(byte)) {
-                return Scanned::Outside;
+                return None;
             }
             put_within(glyphs, offsets, at, Column(n), 2, a, ByteAt(byte));
             byte += 3;
             n += 2;
         }
     }
-    Scanned::Columns(Column(n))
+    Some(Column(n))
 }
 
 // More than 128 as 129, which no width is.
 fn clipped(columns: Column) -> u8
     ensures { result ≡ clipped_of columns.0 }
 {
-    let n = columns.0;
-    if STRIDE < n { 129 } else { n as u8 }
+    columns.0.min(STRIDE + 1) as u8
 }
 
 // Is a line plain? It is not looked at where that is known.
@@ -124,10 +119,7 @@ fn is_plain_line(text: &[u8], known: bool) -> bool
     requires { known ≡ true → plain text.now ≡ true }
     ensures { result ≡ plain text.now }
 {
-    if known {
-        return true;
-    }
-    is_plain(text)
+    known || is_plain(text)
 }
 
 // Is line y, which may be known to be plain, UTF-8 of the set? What is known of it afterwards goes to the
@@ -149,7 +141,7 @@ pub fn scan_next(
         counts[y] = PLAIN;
         return true;
     }
-    let Scanned::Columns(n) = scan_line(trim_end(text), column, y * STRIDE, glyphs, offsets) else {
+    let Some(n) = scan_line(trim_end(text), column, y * STRIDE, glyphs, offsets) else {
         return false;
     };
     counts[y] = clipped(n);

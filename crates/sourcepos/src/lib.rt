@@ -3,7 +3,7 @@
 #![tactic(auto)]
 
 // Where the text of a cell's line stands and ends: its line, the column of its first byte and that of its line end.
-#[derive(Clone, Copy)]
+#[derive(Clone, Copy, Debug, PartialEq, Eq)]
 pub struct CellLineEnd {
     pub line: u32,
     pub start: u32,

@@ -22,13 +22,13 @@ use Rattle.cell.specs.Text.{source_in, kept_lines, all_lines}
 use Rattle.representation.specs.TableEntries.{section_entries, table_entries}
 use Rattle.representation.proofs.TableEntryLaws.{cell_of, cells_told, sections-told}
 use Rattle.reading.specs.Call.{SheetArrays, lines_in, rects_in, TracedSheet}
-use Rattle.reading.specs.declared.Outcome.{Outcome}
+use Rattle.reading.specs.declared.Reading.{Reading}
 use Rattle.reading.proofs.SheetLaws.{traced-height, traced-laid}
 use Rattle.layout.proofs.FoundLaws.{PartsFound, parts-head, parts-foot}
 use Rattle.table.specs.Call.{arrays}
 use Rattle.cell.proofs.FrameLaws.{traced-kept}
 
-module _ {a : SheetArrays} {o : Outcome} (t : TracedSheet a o) (starts : List ℕ) where
+module _ {a : SheetArrays} {o : Reading} (t : TracedSheet a o) (starts : List ℕ) where
   abbrev lines : List Line
   lines = lines_in a
 

@@ -4,12 +4,11 @@ use Rattle.grid.specs.Flat.{TableArrays, join_text}
 use Rattle.representation.specs.Edges.{Collected, row_lines_below, column_lines_below}
 use Rattle.representation.specs.declared.Bounds.{Bounds}
 use Rattle.cell.specs.Text.{source_in, kept_lines, all_lines, SourceReady, CountedBy, most_text}
-use Rattle.reading.specs.Call.{SheetArrays, rects_in, TracedSheet}
-use Rattle.reading.specs.declared.Outcome.{Outcome}
+use Rattle.reading.specs.Call.{SheetArrays, rects_in}
+use Rattle.reading.specs.declared.Reading.{Reading}
 
 -- the lines found, the numbers counted, and room in every array
-pub record Writable (a : SheetArrays) (o : Outcome) (starts counts : List ℕ) (tops lefts : Bounds) (out : TableArrays) : Type 0 where
-  pub traced : TracedSheet a o
+pub record Writable (a : SheetArrays) (o : Reading) (starts counts : List ℕ) (tops lefts : Bounds) (out : TableArrays) : Type 0 where
   pub ready : SourceReady (source_in a starts)
   pub counted : CountedBy (λ r. length (kept_lines (source_in a starts) r)) (rects_in a o.cells) counts
   pub rows_found : Collected (row_lines_below (length a.lengths) (rects_in a o.cells)) (length a.lengths) tops

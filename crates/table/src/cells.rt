@@ -3,29 +3,28 @@ ghost use Rattle.std.specs.Prelude.{ℕ, ◌*◌, ◌≤◌, ◌≡◌, length};
 ghost use mathlib.Core.List.{Memᴰ};
 ghost use Rattle.grid.specs.Answer.{over};
 ghost use Rattle.grid.specs.Values.{Rect};
-ghost use Rattle.representation.specs.Arrays.{rects_of};
 ghost use Rattle.representation.specs.LayoutEntries.{lines_held, Numbered};
-ghost use Rattle.cell.specs.Text.{CountedBy};
 ghost use Rattle.representation.specs.TableEntries.{table_entries};
+ghost use Rattle.representation.specs.Traced.{rects_held};
+ghost use Rattle.cell.specs.Text.{CountedBy};
 
 use layout::cell_entries::write_spans;
 use representation::Bounds;
+use representation::rects::Rects;
 
 // Each cell's row, column, colspan, rowspan and number of lines.
-pub fn write_table_cells(
-    rects: &[u8],
-    n: usize,
+pub(crate) fn write_table_cells(
+    rects: Rects<'_>,
     rows: Bounds,
     columns: Bounds,
     counts: &[u8],
     out: &mut [u16],
 )
-    requires n_bound { (n ≤ 1024) × (4 * n ≤ length rects.now) × (n ≤ length counts.now) × (5 * n ≤ length out.old) }
-    requires index_len { (length rows.index ≡ 128) × (length columns.index ≡ 128) }
-    requires numbered { (r : Rect) → Memᴰ r (rects_of n rects.now) → Numbered rows columns r }
-    ensures { let rs = rects_of n rects.now in
-        ((f : Rect → ℕ) → CountedBy f rs counts.now
-        → out.new ≡ over (table_entries f (lines_held rows) (lines_held columns) rs) out.old) }
+    requires room { 5 * rects.count ≤ length out.old }
+    requires count_room { rects.count ≤ length counts.now }
+    requires numbered { (r : Rect) → Memᴰ r (rects_held rects) → Numbered rows columns r }
+    ensures { (f : Rect → ℕ) → CountedBy f (rects_held rects.entry) counts.now
+        → out.new ≡ over (table_entries f (lines_held rows) (lines_held columns) (rects_held rects.entry)) out.old }
 {
-    write_spans(rects, n, rows, columns, counts, 1, 0, out);
+    write_spans(rects, rows, columns, counts, 1, 0, out);
 }

@@ -9,10 +9,12 @@ pub mod sections;
 ghost use Rattle.std.specs.Prelude.{◌≤◌, ◌≡◌, length};
 ghost use Rattle.grid.specs.Flat.{table_arrays};
 ghost use Rattle.grid.specs.Limits.{max_lines, max_cells};
+ghost use Rattle.grid.specs.LayoutCall.{spaces};
 ghost use Rattle.grid.specs.TableCall.{table_over, table_answer, table_afterwards, table_spaces};
+ghost use Rattle.representation.specs.Lent.{drawing_of};
 ghost use Rattle.representation.specs.TableParts.{table_from, table_sizes_of, table_arrays_of};
-ghost use Rattle.reading.specs.Call.{sheet_of, lines_in, rects_in, TracedSheet};
-ghost use Rattle.grid.specs.LayoutCall.{spaces, drawing};
+ghost use Rattle.reading.specs.Call.{lines_in, rects_in};
+ghost use Rattle.reading.specs.Sheets.{arrays_in};
 ghost use Rattle.table.specs.Needs.{Writable};
 ghost use Rattle.table.specs.Call.{answer_of, arrays};
 
@@ -20,42 +22,35 @@ use crate::cells::write_table_cells;
 use crate::lines::write_text;
 use crate::room::lacks_room;
 use crate::sections::write_sections;
-use cell::pieces::prepare;
+use cell::pieces::line_starts;
+use cell::source::Source;
+use layout::alignments::AlignmentLine;
 use layout::bounds::{col_bounds, row_bounds};
 use layout::column_entries::write_columns;
 use layout::sections::find_parts;
-use reading::{Outcome, read, trimmed_line};
+use reading::{TracedDrawing, read, trimmed_line};
+use refusals::Refusal;
 use representation::Bounds;
+use representation::lent::Drawing;
+use representation::rects::Rects;
 
 const MAX_LINES: usize = 128;
 
 const MAX_CELLS: usize = 1024;
 
-// How many columns, rows, cells, lines and bytes were written; or a refusal.
-#[derive(Clone, Copy)]
-pub enum TableAnswer {
-    Accepted {
-        columns: usize,
-        rows: usize,
-        cells: usize,
-        lines: usize,
-        bytes: usize,
-    },
-    Refused {
-        number: usize,
-        place: usize,
-    },
+// How many columns, rows, cells, lines and bytes were written.
+#[derive(Clone, Copy, Debug, PartialEq, Eq)]
+pub struct TableSizes {
+    pub columns: usize,
+    pub rows: usize,
+    pub cells: usize,
+    pub lines: usize,
+    pub bytes: usize,
 }
 
 // Writes the five arrays.
 fn write_table(
-    lengths: &[u16],
-    columns: &[u16],
-    text: &[u8],
-    outcome: Outcome,
-    glyphs: &[u8],
-    offsets: &[u16],
-    rects: &[u8],
+    traced: TracedDrawing<'_>,
     starts: &[u16],
     counts: &[u8],
     tops: Bounds,
@@ -66,48 +61,41 @@ fn write_table(
     out_lengths: &mut [u16],
     out_text: &mut [u8],
 )
-    requires { let sheet = sheet_of lengths.now columns.now text.now glyphs.now offsets.now rects.now in
-        let out = arrays cols.old sections.old cells.old out_lengths.old out_text.old in
-        Writable sheet outcome starts.now counts.now tops lefts out }
+    requires { let out = arrays cols.old sections.old cells.old out_lengths.old out_text.old in
+        Writable (arrays_in traced) traced.reading starts.now counts.now tops lefts out }
     ensures { let before = arrays cols.old sections.old cells.old out_lengths.old out_text.old in
         let after = arrays cols.new sections.new cells.new out_lengths.new out_text.new in
-        let sheet =
-        sheet_of lengths.now columns.now text.now glyphs.now offsets.now rects.now in
-        after ≡ table_over (table_arrays (table_from (lines_in sheet) (rects_in sheet outcome.cells))) before }
+        let sheet = arrays_in traced.entry in
+        let rs = rects_in sheet traced.entry.reading.cells in
+        after ≡ table_over (table_arrays (table_from (lines_in sheet) rs)) before }
 {
-    let height = lengths.len();
-    let n = outcome.cells;
-    let separators = outcome.separators;
-    let lines = separators.lines;
-    let parts = find_parts(lines, separators.count, height);
-    let head = parts.head;
-    let line = trimmed_line(lengths, text, head);
-    write_columns(lefts, glyphs, offsets, line, head, cols);
-    write_sections(tops, parts, sections);
-    write_table_cells(rects, n, tops, lefts, counts, cells);
-    write_text(
-        lengths,
-        columns,
-        text,
+    let source = Source {
+        drawing: traced.drawing,
+        offsets: traced.offsets,
         starts,
-        offsets,
-        rects,
-        n,
-        counts,
-        out_lengths,
-        out_text,
-    );
+    };
+    let rects = Rects {
+        array: traced.rects,
+        count: traced.reading.cells,
+    };
+    let separators = traced.reading.separators;
+    let height = traced.drawing.lengths.len();
+    let parts = find_parts(&separators.lines[..separators.count], height);
+    let line = AlignmentLine {
+        glyphs: traced.glyphs,
+        offsets: traced.offsets,
+        line: parts.head,
+        text: trimmed_line(traced.drawing, parts.head),
+    };
+    write_columns(lefts, line, cols);
+    write_sections(tops, parts, sections);
+    write_table_cells(rects, tops, lefts, counts, cells);
+    write_text(&source, rects, counts, out_lengths, out_text);
 }
 
 // From the traced rectangles to the table. `starts` and `counts` are working space.
 fn finish(
-    lengths: &[u16],
-    columns: &[u16],
-    text: &[u8],
-    outcome: Outcome,
-    glyphs: &[u8],
-    offsets: &[u16],
-    rects: &[u8],
+    traced: TracedDrawing<'_>,
     starts: &mut [u16],
     counts: &mut [u8],
     cols: &mut [u16],
@@ -115,47 +103,52 @@ fn finish(
     cells: &mut [u16],
     out_lengths: &mut [u16],
     out_text: &mut [u8],
-) -> TableAnswer
-    requires traced_sheet { TracedSheet (sheet_of lengths.now columns.now text.now glyphs.now offsets.now rects.now) outcome }
-    requires max_lines_in_bounds { (max_lines ≤ length starts.old) × (max_cells ≤ length counts.old) }
-    ensures { let before = arrays cols.old sections.old cells.old out_lengths.old out_text.old in
+) -> Result<TableSizes, Refusal>
+    requires { (max_lines ≤ length starts.old) × (max_cells ≤ length counts.old) }
+    ensures answer { let before = arrays cols.old sections.old cells.old out_lengths.old out_text.old in
+        let sheet = arrays_in traced.entry in
+        let rs = rects_in sheet traced.entry.reading.cells in
+        answer_of result ≡ table_sizes_of (lines_in sheet) rs before }
+    ensures written { let before = arrays cols.old sections.old cells.old out_lengths.old out_text.old in
         let after = arrays cols.new sections.new cells.new out_lengths.new out_text.new in
-        let sheet =
-        sheet_of lengths.now columns.now text.now glyphs.now offsets.now rects.now in
-        (answer_of result ≡ table_sizes_of (lines_in sheet) (rects_in sheet outcome.cells) before)
-        × (after ≡ table_arrays_of (lines_in sheet) (rects_in sheet outcome.cells) before) }
+        let sheet = arrays_in traced.entry in
+        let rs = rects_in sheet traced.entry.reading.cells in
+        after ≡ table_arrays_of (lines_in sheet) rs before }
 {
-    let n = outcome.cells;
-    let tops = row_bounds(rects, n, lengths.len());
-    let lefts = col_bounds(rects, n, outcome.width);
-    let size = prepare(lengths, columns, text, offsets, rects, n, starts, counts);
-    let down = tops.count - 1;
-    let across = lefts.count - 1;
+    let lengths = traced.drawing.lengths;
+    let rects = Rects {
+        array: traced.rects,
+        count: traced.reading.cells,
+    };
+    let tops = row_bounds(rects, lengths.len());
+    let lefts = col_bounds(rects, traced.reading.width);
+    line_starts(lengths, starts);
+    let source = Source {
+        drawing: traced.drawing,
+        offsets: traced.offsets,
+        starts,
+    };
+    let text = source.measure(rects, counts);
+    let sizes = TableSizes {
+        columns: lefts.bands(),
+        rows: tops.bands(),
+        cells: traced.reading.cells,
+        lines: text.lines,
+        bytes: text.bytes,
+    };
     let short = lacks_room(
+        sizes,
         cols.len(),
         sections.len(),
         cells.len(),
         out_lengths.len(),
         out_text.len(),
-        across,
-        down,
-        n,
-        size,
     );
     if short {
-        return TableAnswer::Refused {
-            number: 12,
-            place: 0,
-        };
+        return Err(Refusal::OutputShort);
     }
     write_table(
-        lengths,
-        columns,
-        text,
-        outcome,
-        glyphs,
-        offsets,
-        rects,
+        traced,
         starts,
         counts,
         tops,
@@ -166,23 +159,13 @@ fn finish(
         out_lengths,
         out_text,
     );
-    TableAnswer::Accepted {
-        columns: across,
-        rows: down,
-        cells: n,
-        lines: size.lines,
-        bytes: size.bytes,
-    }
+    Ok(sizes)
 }
 
 // The table of a drawing. Working space: glyphs, offsets, down and right of 16,384 entries each,
 // rects of 4,096, starts of 128, counts of 1,024.
 pub fn table(
-    lines: usize,
-    bytes: usize,
-    lengths: &[u16],
-    columns: &[u16],
-    text: &[u8],
+    drawing: Drawing<'_>,
     glyphs: &mut [u8],
     offsets: &mut [u16],
     down: &mut [u8],
@@ -195,38 +178,28 @@ pub fn table(
     cells: &mut [u16],
     out_lengths: &mut [u16],
     out_text: &mut [u8],
-) -> TableAnswer
+) -> Result<TableSizes, Refusal>
     ensures { let space = spaces glyphs.old offsets.old down.old right.old rects.old in
         let more = table_spaces starts.old counts.old in
-        let given = drawing lines bytes lengths.now columns.now text.now in
+        let given = drawing_of drawing.entry in
         let before = arrays cols.old sections.old cells.old out_lengths.old out_text.old in
         let after = arrays cols.new sections.new cells.new out_lengths.new out_text.new in
         (answer_of result ≡ table_answer space more given before)
         × (after ≡ table_afterwards space more given before) }
 {
-    if (starts.len() < MAX_LINES) | (counts.len() < MAX_CELLS) {
-        return TableAnswer::Refused {
-            number: 13,
-            place: 0,
-        };
+    if starts.len() < MAX_LINES || counts.len() < MAX_CELLS {
+        return Err(Refusal::Contradiction);
     }
-    let outcome = read(
-        lines, bytes, lengths, columns, text, glyphs, offsets, down, right, rects,
-    );
-    if outcome.number != 0 {
-        return TableAnswer::Refused {
-            number: outcome.number,
-            place: outcome.place,
-        };
-    }
-    finish(
-        lengths,
-        columns,
-        text,
-        outcome,
+    let reading = read(drawing, glyphs, offsets, down, right, rects)?;
+    let traced = TracedDrawing {
+        drawing,
         glyphs,
         offsets,
         rects,
+        reading,
+    };
+    finish(
+        traced,
         starts,
         counts,
         cols,

@@ -1,6 +1,6 @@
 -- The checks of a table in their order: what each return answers, and what the checks before a call tell.
 use Prim.Native.Nat.{ℕ, ◌*◌}
-use mathlib.Core.Path.{◌≡◌, sym, ap, subst, ◌∙◌}
+use mathlib.Core.Path.{◌≡◌, sym, ap, ◌∙◌}
 use mathlib.Core.Bool.{Bool, true, false, not, ◌&&◌}
 use mathlib.Core.List.{List}
 use native.Mathlib.Omega.{arith}
@@ -8,7 +8,7 @@ use lib.Dec.{eqb, ltb}
 use lib.ListN.{length, length-map}
 use borrow.Author.Tests.{eqb-true, not-false}
 use Rattle.seq.specs.Lists.{sum, all, first_at}
-use Rattle.seq.proofs.Tests.{true-not-false, both_true}
+use Rattle.seq.proofs.Tests.{both_true}
 use Rattle.text.specs.Utf8.{well_formed}
 use Rattle.grid.specs.Answer.{Answer, refuse, refuse_if}
 use Rattle.grid.specs.Values.{Line, Table}
@@ -18,15 +18,11 @@ use Rattle.drawing.specs.GridRules.{keeps_rules}
 use Rattle.drawing.specs.Redraw.{table_empty, table_too_large, table_outside_set, check_table}
 use Rattle.drawing.proofs.LimitLaws.{table_too_large-parts, shape-limits}
 use Rattle.reading.specs.Checks.{place_of}
-use Rattle.reading.specs.declared.checks.Place.{Place}
-use Rattle.reading.specs.declared.checks.Place.TheVariants.{At, Nowhere}
+use Rattle.std.proofs.Common.{Option, Some, None}
 use Rattle.representation.specs.TableIn.{table_in, counts_in, Tabled}
 use Rattle.representation.proofs.TableInLaws.{columns-length, cells-length, lines-whole}
 use Rattle.table_checks.specs.Agreement.{Agree}
 use Rattle.table_checks.specs.Places.{grid_in, CellsPlaced}
-use Rattle.table_checks.specs.Checks.{after_checks}
-use Rattle.table_checks.specs.declared.Checked.{Checked}
-use Rattle.table_checks.specs.declared.Checked.TheVariants.{Fine, Refused}
 use Rattle.table_checks.proofs.PlaceLaws.{rules-placed}
 
 -- ---- arrays without a contradiction
@@ -77,11 +73,11 @@ module _ (s : TableSizes) (t : TableArrays) {a : Bool} (told : a ≡ table_contr
   pub lines-add-up : sum t.lengths ≡ length t.text
   lines-add-up = sized.lengths_agree ∙ sym sized.bytes_agree
 
-  pub table_contradicts-agree : (length t.columns ≡ 2 * s.columns) × Agree s.cells t.cells t.lengths t.text
-  table_contradicts-agree = (
-    sized.cols_room,
-    record { cells_room = sized.cells_room; lines_agree = sized.counts_agree ∙ sym sized.lines_agree; bytes_agree = lines-add-up },
-  )
+  pub columns-sized : length t.columns ≡ 2 * s.columns
+  columns-sized = sized.cols_room
+
+  pub lines-agree : Agree s.cells t.cells t.lengths t.text
+  lines-agree = record { cells_room = sized.cells_room; lines_agree = sized.counts_agree ∙ sym sized.lines_agree; bytes_agree = lines-add-up }
 
   pub check_table-placed : (origin : ℕ) {l : Bool}
       → l ≡ table_too_large origin (table_in s.columns s.cells t.columns t.sections t.cells t.lengths t.text) → l ≡ false
@@ -97,33 +93,15 @@ module _ (s : TableSizes) (t : TableArrays) {a : Bool} (told : a ≡ table_contr
       }
 
 -- ---- the returns
-pub not-fine : {number place : ℕ} → Refused number place ≡ Fine → ⊥
-not-fine e = true-not-false (ap refusing e) where
-  refusing : Checked → Bool
-  refusing Fine = false
-  refusing (Refused number place) = true
-
 module _ (origin : ℕ) (s : TableSizes) (t : TableArrays) where
   abbrev table : Table
   table = table_in s.columns s.cells t.columns t.sections t.cells t.lengths t.text
 
+  -- what is answered where this follows the checks
   abbrev answer : Answer (List Line) → Answer (List Line)
   answer next = refuse_if (table_contradicts s t) 13 (check_table origin (table_of_arrays s t) next)
 
-  -- what the contract says of the result
-  abbrev Told : Checked → Type 0
-  Told r =
-      ((next : Answer (List Line)) → after_checks r next ≡ answer next)
-      × (r ≡ Fine → Tabled origin s.columns s.cells t.columns t.sections t.cells t.lengths t.text)
-      × (r ≡ Fine → (s.rows ≡ length t.sections) × (s.lines ≡ length t.lengths) × (s.bytes ≡ length t.text))
-
-  refusal : {number place : ℕ} {r : Checked} → r ≡ Refused number place → ((next : Answer (List Line)) → refuse number place ≡ answer next) → Told r
-  refusal {number} {place} {r} q e = subst Told (sym q) (e, (λ f. absurd (not-fine f)), (λ f. absurd (not-fine f)))
-
   module _ {a : Bool} (a-told : a ≡ table_contradicts s t) where
-    pub check_table-contradicted : a ≡ true → {r : Checked} → r ≡ Refused 13 0 → Told r
-    check_table-contradicted e q = refusal q (λ next. rw (← a-told, e))
-
     module _ (fit : a ≡ false) {b : Bool}
         (b-told : (u : Table) → length u.columns ≡ s.columns → length u.sections ≡ s.rows → length u.cells ≡ s.cells → b ≡ table_empty u) where
       agreed : Sized s t
@@ -138,16 +116,16 @@ module _ (origin : ℕ) (s : TableSizes) (t : TableArrays) where
           b-told table (columns-length s.columns t.columns) (length-map t.sections code_section ∙ agreed.rows_agree)
           (cells-length s.cells t.cells (split_text t.lengths t.text))
 
-      pub check_table-empty : b ≡ true → {r : Checked} → r ≡ Refused 1 0 → Told r
+      pub check_table-empty : b ≡ true → (next : Answer (List Line)) → refuse 1 0 ≡ answer next
       unfolding check_table
-      check_table-empty e q = refusal q (λ next. rw (rest next, ← is-empty, e))
+      check_table-empty e next = rw (rest next, ← is-empty, e)
 
       module _ (some : b ≡ false) {l : Bool} (l-told : l ≡ table_too_large origin table) where
-        pub check_table-large : l ≡ true → {r : Checked} → r ≡ Refused 2 0 → Told r
+        pub check_table-large : l ≡ true → (next : Answer (List Line)) → refuse 2 0 ≡ answer next
         unfolding check_table
-        check_table-large e q = refusal q (λ next. rw (rest next, ← is-empty, some, ← l-told, e))
+        check_table-large e next = rw (rest next, ← is-empty, some, ← l-told, e)
 
-        module _ (small : l ≡ false) (p : Place) (p-told : place_of p ≡ first_at (λ line. not (well_formed line)) 0 (split_text t.lengths t.text)) where
+        module _ (small : l ≡ false) (p : Option ℕ) (p-told : place_of p ≡ first_at (λ line. not (well_formed line)) 0 (split_text t.lengths t.text)) where
           outside_told : table_outside_set table ≡ place_of p
           unfolding table_outside_set
           outside_told =
@@ -155,27 +133,28 @@ module _ (origin : ℕ) (s : TableSizes) (t : TableArrays) where
               let counted = agreed.counts_agree ∙ sym agreed.lines_agree ∙ sym (length-split t.lengths t.text) in
               rw (lines-whole s.cells t.cells lines (omega (arith, counted))) (sym p-told)
 
-          pub check_table-outside : {y : ℕ} → p ≡ At y → {r : Checked} → r ≡ Refused 3 y → Told r
+          pub check_table-outside : {y : ℕ} → p ≡ Some y → (next : Answer (List Line)) → refuse 3 y ≡ answer next
           unfolding check_table
-          check_table-outside e q = refusal q (λ next. rw (rest next, ← is-empty, some, ← l-told, small, outside_told, e))
+          check_table-outside e next = rw (rest next, ← is-empty, some, ← l-told, small, outside_told, e)
 
-          module _ (inside : p ≡ Nowhere) {k : Bool} (k-told : k ≡ keeps_rules (grid_in s.columns s.cells t.sections t.cells)) where
+          module _ (inside : p ≡ None) {k : Bool} (k-told : k ≡ keeps_rules (grid_in s.columns s.cells t.sections t.cells)) where
             rules-told : keeps_rules table ≡ k
             rules-told = rules-placed s.columns s.cells t.columns t.sections t.cells t.lengths t.text ∙ sym k-told
 
-            pub check_table-broken : not k ≡ true → {r : Checked} → r ≡ Refused 8 0 → Told r
+            pub check_table-broken : not k ≡ true → (next : Answer (List Line)) → refuse 8 0 ≡ answer next
             unfolding check_table
-            check_table-broken e q = refusal q (λ next. rw (rest next, ← is-empty, some, ← l-told, small, outside_told, inside, rules-told, e))
+            check_table-broken e next = rw (rest next, ← is-empty, some, ← l-told, small, outside_told, inside, rules-told, e)
 
-            pub check_table-kept : not k ≡ false → Told Fine
-            unfolding check_table
-            check_table-kept e = (
-              (λ next. sym (rest next ∙ rw (← is-empty, some, ← l-told, small, outside_told, inside, rules-told, e))),
-              (λ f. tabled),
-              (λ f. (sym agreed.rows_agree, sym agreed.lines_agree, sym agreed.bytes_agree)),
-            ) where
-              tabled : Tabled origin s.columns s.cells t.columns t.sections t.cells t.lengths t.text
-              tabled =
+            module _ (kept : not k ≡ false) where
+              pub check_table-kept : (next : Answer (List Line)) → next ≡ answer next
+              unfolding check_table
+              check_table-kept next = sym (rest next ∙ rw (← is-empty, some, ← l-told, small, outside_told, inside, rules-told, kept))
+
+              pub check_table-sized : (s.rows ≡ length t.sections) × (s.lines ≡ length t.lengths) × (s.bytes ≡ length t.text)
+              check_table-sized = (sym agreed.rows_agree, sym agreed.lines_agree, sym agreed.bytes_agree)
+
+              pub check_table-tabled : Tabled origin s.columns s.cells t.columns t.sections t.cells t.lengths t.text
+              check_table-tabled =
                   record {
                     cols_room = agreed.cols_room;
                     cells_room = agreed.cells_room;
@@ -187,6 +166,6 @@ module _ (origin : ℕ) (s : TableSizes) (t : TableArrays) where
                       not_empty = sym is-empty ∙ some;
                       not_too_large = sym l-told ∙ small;
                       in_set = outside_told ∙ ap place_of inside;
-                      rules = rules-told ∙ not-false _ e;
+                      rules = rules-told ∙ not-false _ kept;
                     };
                   }

@@ -3,8 +3,12 @@
 ghost use Rattle.std.specs.Prelude.{◌≤◌, ◌<◌, ◌≡◌, true, length};
 ghost use Rattle.seq.specs.Lists.{neighbours};
 ghost use Rattle.drawing.specs.GridRules.{comes_before, cover_once};
-ghost use Rattle.table_checks.specs.Places.{places_of, grid_in, Laid};
+ghost use Rattle.table_checks.specs.Places.{places_of};
+ghost use Rattle.table_checks.specs.Shapes.{grid_of, IsLaid};
 ghost use Rattle.table_checks.specs.Skyline.{all_at, Raised};
+
+use crate::cell_entry::CellEntry;
+use crate::shape::Shape;
 
 // A level for each column or row.
 #[derive(Clone, Copy)]
@@ -12,52 +16,46 @@ pub struct Levels {
     pub each: [u8; 128],
 }
 
-// Are those from `from` up to `to` all at this level?
-pub fn all_at(levels: Levels, from: usize, to: usize, level: usize) -> bool
-    requires { (length levels.each ≡ 128) × (to ≤ 128) }
-    ensures { result ≡ all_at levels.each from to level }
-{
-    let mut x = from;
-    while x < to {
-        if levels.each[x] as usize != level {
-            return false;
+impl Levels {
+    // Are those from `from` up to `to` all at this level?
+    pub fn all_at(&self, from: usize, to: usize, level: usize) -> bool
+        requires { to ≤ 128 }
+        ensures { result ≡ all_at self.now.each from to level }
+    {
+        for x in from..to {
+            if self.each[x] as usize != level {
+                return false;
+            }
         }
-        x += 1;
+        true
     }
-    true
-}
 
-// Columns left up to right rise to the bottom of a cell.
-fn raised(mut bottoms: Levels, left: usize, right: usize, bottom: usize) -> Levels
-    requires { (length bottoms.each ≡ 128) × (left ≤ right) × (right ≤ 128) × (bottom < 256) }
-    ensures { Raised bottoms.each left right bottom result.each }
-{
-    let mut x = left;
-    while x < right {
-        bottoms.each[x] = bottom as u8;
-        x += 1;
+    // Those from `left` up to `right` get this level.
+    fn raise(&mut self, left: usize, right: usize, level: u8)
+        requires { (left ≤ right) × (right ≤ 128) }
+        ensures { Raised self.old.each left right level self.new.each }
+    {
+        for x in left..right {
+            self.each[x] = level;
+        }
     }
-    bottoms
 }
 
 // Each cell in turn must stand level on those before it: a column that is higher would be covered twice,
 // and a lower one left open, since later cells start no higher.
-pub fn covers_once(columns: usize, n: usize, sections: &[u8], cells: &[u16]) -> bool
-    requires { Laid columns n sections.now cells.now × (neighbours comes_before (places_of n cells.now) ≡ true) }
-    ensures { result ≡ cover_once (grid_in columns n sections.now cells.now) }
+pub fn covers_once(shape: Shape<'_>) -> bool
+    requires laid { IsLaid shape }
+    requires ordered { neighbours comes_before (places_of shape.cells shape.cell_entries.now) ≡ true }
+    ensures { result ≡ cover_once (grid_of shape.entry) }
 {
     let mut bottoms = Levels { each: [0; 128] };
-    let mut k = 0;
-    while k < n {
-        let at = 5 * k;
-        let row = cells[at] as usize;
-        let left = cells[at + 1] as usize;
-        let right = left + cells[at + 2] as usize;
-        if !all_at(bottoms, left, right, row) {
+    for k in 0..shape.cells {
+        let cell = CellEntry::at(shape.cell_entries, k);
+        let left = cell.column as usize;
+        if !bottoms.all_at(left, cell.right(), cell.row as usize) {
             return false;
         }
-        bottoms = raised(bottoms, left, right, row + cells[at + 3] as usize);
-        k += 1;
+        bottoms.raise(left, cell.right(), cell.bottom() as u8);
     }
-    all_at(bottoms, 0, columns, sections.len())
+    bottoms.all_at(0, shape.columns, shape.sections.len())
 }

@@ -9,14 +9,10 @@ pub fn any_over(numbers: &[u16], from: usize, step: usize, count: usize, limit: 
     requires { (from < step) × (step ≤ 5) × (step * count ≤ length numbers.now) }
     ensures { result ≡ any_over limit (entries from step count numbers.now) }
 {
-    let mut at = from;
-    let mut left = count;
-    while 0 < left {
-        if limit < numbers[at] {
+    for k in 0..count {
+        if limit < numbers[step * k + from] {
             return true;
         }
-        at += step;
-        left -= 1;
     }
     false
 }
@@ -27,16 +23,12 @@ pub fn adds_up(numbers: &[u16], from: usize, step: usize, count: usize, total: u
     ensures { result ≡ eqb (sum (entries from step count numbers.now)) total }
 {
     let mut missing = total;
-    let mut at = from;
-    let mut left = count;
-    while 0 < left {
-        let number = numbers[at] as usize;
+    for k in 0..count {
+        let number = numbers[step * k + from] as usize;
         if missing < number {
             return false;
         }
         missing -= number;
-        at += step;
-        left -= 1;
     }
     missing == 0
 }

@@ -2,9 +2,12 @@
 ghost use Rattle.std.specs.Prelude.{◌*◌, ◌≡◌, true, length, leb};
 ghost use Rattle.seq.specs.Lists.{neighbours};
 ghost use Rattle.drawing.specs.GridRules.{comes_before, all_inside, none_crosses, keeps_rules};
-ghost use Rattle.table_checks.specs.Places.{places_of, grid_in, CellsPlaced, Laid};
+ghost use Rattle.table_checks.specs.Places.{places_of};
+ghost use Rattle.table_checks.specs.Shapes.{grid_of, IsPlaced, IsLaid};
 
+use crate::cell_entry::CellEntry;
 use crate::cover::covers_once;
+use crate::shape::Shape;
 use crate::starts::all_start;
 
 // Do the cells stand in order of row, then column?
@@ -12,36 +15,31 @@ fn in_order(n: usize, cells: &[u16]) -> bool
     requires { length cells.now ≡ 5 * n }
     ensures { result ≡ neighbours comes_before (places_of n cells.now) }
 {
-    let mut k = 0;
-    while k + 1 < n {
-        let at = 5 * k;
-        let row = cells[at];
-        let next = cells[at + 5];
-        if !((row < next) | ((row == next) & (cells[at + 1] < cells[at + 6]))) {
+    for k in 1..n {
+        let before = CellEntry::at(cells, k - 1);
+        let cell = CellEntry::at(cells, k);
+        let after = (before.row == cell.row) & (before.column < cell.column);
+        if !((before.row < cell.row) | after) {
             return false;
         }
-        k += 1;
     }
     true
 }
 
 // Has every cell its spans, and lies in the grid?
-fn all_inside(columns: usize, n: usize, sections: &[u8], cells: &[u16]) -> bool
-    requires { length cells.now ≡ 5 * n }
-    ensures { result ≡ all_inside (grid_in columns n sections.now cells.now) }
+fn all_inside(shape: Shape<'_>) -> bool
+    requires { length shape.cell_entries.now ≡ 5 * shape.cells }
+    ensures { result ≡ all_inside (grid_of shape.entry) }
 {
-    let rows = sections.len();
-    let mut k = 0;
-    while k < n {
-        let at = 5 * k;
-        let colspan = cells[at + 2] as usize;
-        let rowspan = cells[at + 3] as usize;
-        let right = cells[at + 1] as usize + colspan;
-        let bottom = cells[at] as usize + rowspan;
-        if !((0 < colspan) & (0 < rowspan) & (right <= columns) & (bottom <= rows)) {
+    for k in 0..shape.cells {
+        let cell = CellEntry::at(shape.cell_entries, k);
+        if cell.colspan == 0
+            || cell.rowspan == 0
+            || shape.columns < cell.right()
+            || shape.sections.len() < cell.bottom()
+        {
             return false;
         }
-        k += 1;
     }
     true
 }
@@ -50,50 +48,43 @@ fn all_inside(columns: usize, n: usize, sections: &[u8], cells: &[u16]) -> bool
 fn sections_run(sections: &[u8]) -> bool
     ensures { result ≡ neighbours leb sections.now }
 {
-    let mut i = 0;
-    while i + 1 < sections.len() {
-        if sections[i + 1] < sections[i] {
-            return false;
-        }
-        i += 1;
-    }
-    true
+    sections.is_sorted()
 }
 
 // Does no cell cross from one section to another? Its first row's and its last row's tell.
-fn none_crosses(columns: usize, n: usize, sections: &[u8], cells: &[u16]) -> bool
-    requires { Laid columns n sections.now cells.now × (neighbours leb sections.now ≡ true) }
-    ensures { result ≡ none_crosses (grid_in columns n sections.now cells.now) }
+fn none_crosses(shape: Shape<'_>) -> bool
+    requires laid { IsLaid shape }
+    requires run { neighbours leb shape.sections.now ≡ true }
+    ensures { result ≡ none_crosses (grid_of shape.entry) }
 {
-    let mut k = 0;
-    while k < n {
-        let at = 5 * k;
-        let row = cells[at] as usize;
-        let last = row + cells[at + 3] as usize - 1;
-        if sections[row] != sections[last] {
+    for k in 0..shape.cells {
+        let cell = CellEntry::at(shape.cell_entries, k);
+        if shape.sections[cell.row as usize] != shape.sections[cell.bottom() - 1] {
             return false;
         }
-        k += 1;
     }
     true
 }
 
 // The grid rules, in the order of their definition: a later one is tested where the earlier ones are kept.
-pub fn keeps_rules(columns: usize, n: usize, sections: &[u8], cells: &[u16]) -> bool
-    requires { CellsPlaced columns n sections.now cells.now }
-    ensures { result ≡ keeps_rules (grid_in columns n sections.now cells.now) }
+pub fn keeps_rules(shape: Shape<'_>) -> bool
+    requires { IsPlaced shape }
+    ensures { result ≡ keeps_rules (grid_of shape.entry) }
 {
-    if !in_order(n, cells) {
+    if !in_order(shape.cells, shape.cell_entries) {
         return false;
     }
-    if !all_inside(columns, n, sections, cells) {
+    if !all_inside(shape) {
         return false;
     }
-    if !(covers_once(columns, n, sections, cells) & all_start(columns, n, sections, cells)) {
+    if !covers_once(shape) {
         return false;
     }
-    if !sections_run(sections) {
+    if !all_start(shape) {
         return false;
     }
-    none_crosses(columns, n, sections, cells)
+    if !sections_run(shape.sections) {
+        return false;
+    }
+    none_crosses(shape)
 }

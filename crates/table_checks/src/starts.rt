@@ -3,9 +3,10 @@ ghost use Rattle.std.specs.Prelude.{ℕ, ◌+◌, ◌*◌, ◌<◌, ◌≡◌, l
 ghost use Rattle.drawing.specs.GridRules.{all_start};
 ghost use Rattle.representation.specs.Edges.{Marks};
 ghost use Rattle.table_checks.specs.Entries.{entries};
-ghost use Rattle.table_checks.specs.Places.{grid_in, Laid};
+ghost use Rattle.table_checks.specs.Shapes.{grid_of, IsLaid};
 
-use crate::cover::{Levels, all_at};
+use crate::cover::Levels;
+use crate::shape::Shape;
 
 // Marks by level 1 the rows (from 0 on) or columns (from 1 on) in which cells start.
 fn starts(cells: &[u16], n: usize, from: usize) -> Levels
@@ -13,18 +14,17 @@ fn starts(cells: &[u16], n: usize, from: usize) -> Levels
     ensures { Marks (entries from 5 n cells.now) result.each }
 {
     let mut marks = Levels { each: [0; 128] };
-    let mut k = 0;
-    while k < n {
-        let start = cells[5 * k + from] as usize;
-        marks.each[start] = 1;
-        k += 1;
+    for k in 0..n {
+        marks.each[cells[5 * k + from] as usize] = 1;
     }
     marks
 }
 
-pub fn all_start(columns: usize, n: usize, sections: &[u8], cells: &[u16]) -> bool
-    requires { Laid columns n sections.now cells.now }
-    ensures { result ≡ all_start (grid_in columns n sections.now cells.now) }
+pub fn all_start(shape: Shape<'_>) -> bool
+    requires { IsLaid shape }
+    ensures { result ≡ all_start (grid_of shape.entry) }
 {
-    all_at(starts(cells, n, 0), 0, sections.len(), 1) & all_at(starts(cells, n, 1), 0, columns, 1)
+    let rows = starts(shape.cell_entries, shape.cells, 0);
+    let columns = starts(shape.cell_entries, shape.cells, 1);
+    rows.all_at(0, shape.sections.len(), 1) && columns.all_at(0, shape.columns, 1)
 }

@@ -1,5 +1,7 @@
 -- Laws of `byte_columns`: added up over the bytes of a line that is UTF-8 of the set it gives the line's columns, a tab counted as 4; where
 -- no byte is a tab, the columns from any column on.
+use Rattle.std.specs.Prelude.{Option, None, Some}
+use Rattle.text.specs.declared.Character.{Character}
 use Prim.Native.Nat.{ℕ, zero, suc, ◌+◌, ◌-◌, ◌*◌, ◌^◌, ◌≤◌, ◌<◌}
 use mathlib.Core.Path.{◌≡◌, refl, sym, ap, ap₂, ◌∙◌}
 use mathlib.Core.Logic.{⊎_elim}
@@ -15,8 +17,6 @@ use borrow.Author.Tests.{ltb-true, ltb-false, lt-ltb, le-ltb, ne_eqb, eqb-true, 
 use Rattle.seq.specs.Lists.{sum, any}
 use Rattle.seq.proofs.Tests.{true-not-false, or-neither}
 use Rattle.seq.proofs.Walks.{sum_more, any_step, any-end, or-false, or_assoc}
-use Rattle.text.specs.declared.Decoded.{Decoded}
-use Rattle.text.specs.declared.Decoded.TheVariants.{Character, Refused}
 use Rattle.text.specs.Characters.{tab, tab_columns, in_set, span}
 use Rattle.text.specs.Utf8.{continues, character, chars_step, chars_from, char_indices, well_step, well_from, well_formed}
 use Rattle.text.specs.Columns.{columns_from, is_tab, byte_columns, added_columns}
@@ -65,43 +65,43 @@ module _ (b : ℕ) where
     go false t false false false = omega arith
 
 -- ---- a character's columns are added at its first byte
-module _ (s : List ℕ) (v k : ℕ) (is : character s ≡ Character v k) where
+module _ (s : List ℕ) (c : Character) (is : character s ≡ Some c) where
   abbrev first : ℕ
   first = get_or s 0 0
 
   abbrev second : ℕ
   second = get_or s 1 0
 
-  in-set : in_set v ≡ true
-  in-set = character-in-set s v k is
+  in-set : in_set c.value ≡ true
+  in-set = character-in-set s c is
 
-  pub byte_columns-span : (column : ℕ) → (v ≡ tab → ⊥) → byte_columns first ≡ span column v
-  byte_columns-span column no-tab = ⊎_elim one (⊎_elim two three) (of-bytes s v k is).bytes where
-    low : v < 0x300 → 1 ≡ span column v
-    low = spans-one column v in-set no-tab
+  pub byte_columns-span : (column : ℕ) → (c.value ≡ tab → ⊥) → byte_columns first ≡ span column c.value
+  byte_columns-span column no-tab = ⊎_elim one (⊎_elim two three) (of-bytes s c is).bytes where
+    low : c.value < 0x300 → 1 ≡ span column c.value
+    low = spans-one column c.value in-set no-tab
 
-    one : OfOne first v k → byte_columns first ≡ span column v
+    one : OfOne first c.value c.size → byte_columns first ≡ span column c.value
     one h = adds-ascii first h.2 (λ e. no-tab (sym h.1 ∙ e)) ∙ low (omega arith)
 
-    two : OfTwo first second v k → byte_columns first ≡ span column v
+    two : OfTwo first second c.value c.size → byte_columns first ≡ span column c.value
     two h = go (ltb first 0xcc) refl (between 0xc0 0xdf first h.2) (between 0x80 0xbf second h.3) where
-      go : (t : Bool) → ltb first 0xcc ≡ t → (0xc0 ≤ first) × (first ≤ 0xdf) → (0x80 ≤ second) × (second ≤ 0xbf) → byte_columns first ≡ span column v
+      go : (t : Bool) → ltb first 0xcc ≡ t → (0xc0 ≤ first) × (first ≤ 0xdf) → (0x80 ≤ second) × (second ≤ 0xbf) → byte_columns first ≡ span column c.value
       go true e lead more = let less = ltb-true first 0xcc e in adds_one first lead.0 less ∙ low (omega arith)
-      go false e lead more = let high = ltb-false first 0xcc e in adds-mark first high (omega arith) ∙ spans-none column v in-set (omega arith) (omega arith)
+      go false e lead more = let high = ltb-false first 0xcc e in adds-mark first high (omega arith) ∙ spans-none column c.value in-set (omega arith) (omega arith)
 
-    three : OfThree first second (get_or s 2 0) v k → byte_columns first ≡ span column v
-    three h = adds-two first (between 0xe0 0xef first h.2).0 ∙ spans-two column v in-set (set-wide v (omega arith) in-set)
+    three : OfThree first second (get_or s 2 0) c.value c.size → byte_columns first ≡ span column c.value
+    three h = adds-two first (between 0xe0 0xef first h.2).0 ∙ spans-two column c.value in-set (set-wide c.value (omega arith) in-set)
 
   -- the tab's columns at column 0 are 4
-  adds-first : byte_columns first ≡ span 0 v
+  adds-first : byte_columns first ≡ span 0 c.value
   unfolding span tab_columns
-  adds-first = go (eqb v tab) refl where
-    go : (t : Bool) → eqb v tab ≡ t → byte_columns first ≡ span 0 v
-    go true e = let tabbed = eqb-true v tab e in rw (tabbed) (adds-tab first (character-one-byte s v k is (omega arith) ∙ tabbed))
-    go false e = byte_columns-span 0 (eqb-false v tab e)
+  adds-first = go (eqb c.value tab) refl where
+    go : (t : Bool) → eqb c.value tab ≡ t → byte_columns first ≡ span 0 c.value
+    go true e = let tabbed = eqb-true c.value tab e in rw (tabbed) (adds-tab first (character-one-byte s c is (omega arith) ∙ tabbed))
+    go false e = byte_columns-span 0 (eqb-false c.value tab e)
 
-goes_on : (b : ℕ) (bs : List ℕ) (v k : ℕ) → character (b ∷ bs) ≡ Character v k → (i : ℕ) → i < k - 1 → continues (get_or bs i 0) ≡ true
-goes_on b bs v k is i h = rw (add-one i) at (character-goes-on (b ∷ bs) v k is (i + 1) (omega arith) (omega arith))
+goes_on : (b : ℕ) (bs : List ℕ) (c : Character) → character (b ∷ bs) ≡ Some c → (i : ℕ) → i < c.size - 1 → continues (get_or bs i 0) ≡ true
+goes_on b bs c is i h = rw (add-one i) at (character-goes-on (b ∷ bs) c is (i + 1) (omega arith) (omega arith))
 
 -- ---- all bytes of a line: `skip` of them still belong to the character before
 abbrev GoesOn : ℕ → List ℕ → Type 0
@@ -115,11 +115,11 @@ unfolding added_columns chars_from well_from sum
 added-from at skip [] on well = refl
 added-from at (suc skip) (b ∷ bs) on well = rw (adds_none b (on 0 (omega arith)), zero-add) (added-from (at + 1) skip bs (goes-next skip b bs on) well)
 added-from at zero (b ∷ bs) on well = go (character (b ∷ bs)) refl well (λ k. added-from (at + 1) k bs) where
-  go : (d : Decoded) → character (b ∷ bs) ≡ d → well_step d (λ k. well_from k bs) ≡ true
+  go : (d : Option Character) → character (b ∷ bs) ≡ d → well_step d (λ k. well_from k bs) ≡ true
       → ((k : ℕ) → GoesOn k bs → well_from k bs ≡ true → added_columns bs ≡ sum (map (λ c. span 0 c.value) (chars_from (at + 1) k bs)))
       → byte_columns b + added_columns bs ≡ sum (map (λ c. span 0 c.value) (chars_step at d (λ k. chars_from (at + 1) k bs)))
-  go (Character v k) e well later = ap₂ (λ (m n : ℕ). m + n) (adds-first (b ∷ bs) v k e) (later (k - 1) (goes_on b bs v k e) well)
-  go Refused e well later = absurd (true-not-false (sym well))
+  go (Some found) e well later = ap₂ (λ (m n : ℕ). m + n) (adds-first (b ∷ bs) found e) (later (found.size - 1) (goes_on b bs found e) well)
+  go None e well later = absurd (true-not-false (sym well))
 
 columns-from : (column at skip : ℕ) (s : List ℕ) → GoesOn skip s → well_from skip s ≡ true → any is_tab s ≡ false → added_columns s ≡ columns_from column (chars_from at skip s)
 unfolding added_columns columns_from chars_from well_from sum any
@@ -133,13 +133,13 @@ columns-from column at zero (b ∷ bs) on well none = go (character (b ∷ bs)) 
   later-none : any is_tab bs ≡ false
   later-none = (or-neither (is_tab b) (any is_tab bs) none).1
 
-  go : (d : Decoded) → character (b ∷ bs) ≡ d → well_step d (λ k. well_from k bs) ≡ true
+  go : (d : Option Character) → character (b ∷ bs) ≡ d → well_step d (λ k. well_from k bs) ≡ true
       → ((c k : ℕ) → GoesOn k bs → well_from k bs ≡ true → any is_tab bs ≡ false → added_columns bs ≡ columns_from c (chars_from (at + 1) k bs))
       → byte_columns b + added_columns bs ≡ columns_from column (chars_step at d (λ k. chars_from (at + 1) k bs))
-  go (Character v k) e well later =
-      let no-tab : v ≡ tab → ⊥ = λ h. eqb-false b tab first-none (character-one-byte (b ∷ bs) v k e (omega arith) ∙ h) in
-      ap₂ (λ (m n : ℕ). m + n) (byte_columns-span (b ∷ bs) v k e column no-tab) (later (column + span column v) (k - 1) (goes_on b bs v k e) well later-none)
-  go Refused e well later = absurd (true-not-false (sym well))
+  go (Some found) e well later =
+      let no-tab : found.value ≡ tab → ⊥ = λ h. eqb-false b tab first-none (character-one-byte (b ∷ bs) found e (omega arith) ∙ h) in
+      ap₂ (λ (m n : ℕ). m + n) (byte_columns-span (b ∷ bs) found e column no-tab) (later (column + span column found.value) (found.size - 1) (goes_on b bs found e) well later-none)
+  go None e well later = absurd (true-not-false (sym well))
 
 module _ (line : List ℕ) (well : well_formed line ≡ true) where
   pub added_columns-spans : added_columns line ≡ sum (map (λ c. span 0 c.value) (char_indices line))

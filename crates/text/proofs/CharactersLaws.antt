@@ -1,4 +1,5 @@
 -- Laws of specs/Characters.antt.
+use Rattle.std.specs.Prelude.{Option, None, Some, is_some, unwrap_or}
 use Prim.Native.Nat.{ℕ, ◌≤◌, ◌<◌}
 use mathlib.Core.Path.{◌≡◌, refl, sym, ◌∙◌}
 use mathlib.Core.Bool.{Bool, true, false, ◌&&◌, ◌||◌, cond}
@@ -8,42 +9,40 @@ use borrow.Author.Tests.{ltb-true, ltb-false, ne_eqb, le-leb, lt-leb}
 use Rattle.seq.proofs.Tests.{true-not-false}
 use Rattle.seq.proofs.ListsLaws.{within_in, within-above, within-below}
 use Rattle.seq.specs.Lists.{within}
-use Rattle.text.specs.declared.Width.{Width}
-use Rattle.text.specs.declared.Width.TheVariants.{Columns, Outside}
-use Rattle.text.specs.Characters.{tab, takes_one, takes_none, takes_two, width_of, tab_columns, columns_of, is_columns, in_set, span}
+use Rattle.text.specs.Characters.{tab, takes_one, takes_none, takes_two, width_of, tab_columns, in_set, span}
 
 -- ---- the table's rows
 module _ (c : ℕ) where
-  pub width_one : takes_one c ≡ true → width_of c ≡ Columns 1
+  pub width_one : takes_one c ≡ true → width_of c ≡ Some 1
   unfolding width_of
   width_one one = rw one
 
-  pub width-none : takes_one c ≡ false → takes_none c ≡ true → width_of c ≡ Columns 0
+  pub width-none : takes_one c ≡ false → takes_none c ≡ true → width_of c ≡ Some 0
   unfolding width_of
   width-none one none = rw (one, none)
 
-  pub width_two : takes_one c ≡ false → takes_none c ≡ false → takes_two c ≡ true → width_of c ≡ Columns 2
+  pub width_two : takes_one c ≡ false → takes_none c ≡ false → takes_two c ≡ true → width_of c ≡ Some 2
   unfolding width_of
   width_two one none two = rw (one, none, two)
 
-  pub width-outside : takes_one c ≡ false → takes_none c ≡ false → takes_two c ≡ false → width_of c ≡ Outside
+  pub width-outside : takes_one c ≡ false → takes_none c ≡ false → takes_two c ≡ false → width_of c ≡ None
   unfolding width_of
   width-outside one none two = rw (one, none, two)
 
 -- ---- widths
-pub one-or-two-columns-at-most : (c : ℕ) → columns_of (width_of c) ≤ 2
+pub one-or-two-columns-at-most : (c : ℕ) → unwrap_or (width_of c) 0 ≤ 2
 unfolding width_of
 one-or-two-columns-at-most c = go (takes_one c) (takes_none c) (takes_two c) where
-  go : (one none two : Bool) → columns_of (cond one (Columns 1) (cond none (Columns 0) (cond two (Columns 2) Outside))) ≤ 2
+  go : (one none two : Bool) → unwrap_or {T = ℕ} (cond one (Some 1) (cond none (Some 0) (cond two (Some 2) None))) 0 ≤ 2
   go true none two = omega arith
   go false true two = omega arith
   go false false true = omega arith
   go false false false = omega arith
 
-pub ascii-one-column : (c : ℕ) → 0x20 ≤ c → c ≤ 0x7e → width_of c ≡ Columns 1
+pub ascii-one-column : (c : ℕ) → 0x20 ≤ c → c ≤ 0x7e → width_of c ≡ Some 1
 ascii-one-column c low high = width_one c (rw (within_in 0x20 0x7e c low high))
 
-pub mark-no-column : (c : ℕ) → 0x300 ≤ c → c ≤ 0x36f → width_of c ≡ Columns 0
+pub mark-no-column : (c : ℕ) → 0x300 ≤ c → c ≤ 0x36f → width_of c ≡ Some 0
 mark-no-column c low high =
     width-none c
     (rw (within-above 0x20 0x7e c (omega arith), within-above 0xa1 0xac c (omega arith), within-above 0xae 0x17f c (omega arith)))
@@ -63,14 +62,14 @@ pub span-tab : (column : ℕ) → span column tab ≡ tab_columns column
 unfolding span
 span-tab column = refl
 
-pub span-other : (column c : ℕ) → (c ≡ tab → ⊥) → span column c ≡ columns_of (width_of c)
+pub span-other : (column c : ℕ) → (c ≡ tab → ⊥) → span column c ≡ unwrap_or (width_of c) 0
 unfolding span
 span-other column c h = rw (ne_eqb c tab h)
 
 pub span-four-columns-at-most : (column c : ℕ) → span column c ≤ 4
 unfolding span
 span-four-columns-at-most column c = go (eqb c tab) where
-  go : (t : Bool) → cond t (tab_columns column) (columns_of (width_of c)) ≤ 4
+  go : (t : Bool) → cond t (tab_columns column) (unwrap_or (width_of c) 0) ≤ 4
   go true = tab-four-columns-at-most column
   go false = omega (arith, one-or-two-columns-at-most c)
 
@@ -93,7 +92,7 @@ two-below c h =
       within-below 0xff01 0xff60 c (omega arith),
     )
 
-in-set-other : (c : ℕ) → (c ≡ tab → ⊥) → in_set c ≡ is_columns (width_of c)
+in-set-other : (c : ℕ) → (c ≡ tab → ⊥) → in_set c ≡ is_some (width_of c)
 unfolding in_set
 in-set-other c h = rw (ne_eqb c tab h)
 
@@ -102,7 +101,7 @@ unfolding width_of
 set-up-to-marks c low high =
     go (within 0x300 0x36f c) (within 0xa1 0xac c || within 0xae 0x17f c)
     ∙ sym (in-set-other c (λ e. omega arith) ∙ rw (within-above 0x20 0x7e c (omega arith), two-below c high)) where
-      go : (n o : Bool) → n || o ≡ is_columns (cond o (Columns 1) (cond n (Columns 0) Outside))
+      go : (n o : Bool) → n || o ≡ is_some {T = ℕ} (cond o (Some 1) (cond n (Some 0) None))
       go true true = refl
       go true false = refl
       go false true = refl
@@ -112,7 +111,7 @@ set-past-marks : (c : ℕ) → 0x370 ≤ c → takes_two c ≡ in_set c
 unfolding width_of
 set-past-marks c low =
     go (takes_two c) ∙ sym (in-set-other c (λ e. omega arith) ∙ rw (one-above c (omega arith), within-above 0x300 0x36f c (omega arith))) where
-      go : (t : Bool) → t ≡ is_columns (cond t (Columns 2) Outside)
+      go : (t : Bool) → t ≡ is_some {T = ℕ} (cond t (Some 2) None)
       go true = refl
       go false = refl
 
@@ -139,7 +138,7 @@ set-of-three c t e = e ∙ go (ltb c 0x800) refl where
 
 -- the columns of a character of the set, by its ranges
 module _ (column c : ℕ) (in-set : in_set c ≡ true) where
-  has-columns : (c ≡ tab → ⊥) → is_columns (width_of c) ≡ true
+  has-columns : (c ≡ tab → ⊥) → is_some (width_of c) ≡ true
   has-columns no-tab = sym (in-set-other c no-tab) ∙ in-set
 
   pub spans-one : (c ≡ 9 → ⊥) → c < 0x300 → 1 ≡ span column c
@@ -147,7 +146,7 @@ module _ (column c : ℕ) (in-set : in_set c ≡ true) where
   spans-one no-tab h =
       sym (span-other column c no-tab ∙ rw (within-below 0x300 0x36f c h, two-below c (omega arith))
       (go (takes_one c) (rw (within-below 0x300 0x36f c h, two-below c (omega arith)) at (has-columns no-tab)))) where
-        go : (t : Bool) → is_columns (cond t (Columns 1) Outside) ≡ true → columns_of (cond t (Columns 1) Outside) ≡ 1
+        go : (t : Bool) → is_some {T = ℕ} (cond t (Some 1) None) ≡ true → unwrap_or {T = ℕ} (cond t (Some 1) None) 0 ≡ 1
         go true e = refl
         go false e = absurd (true-not-false (sym e))
 
@@ -156,7 +155,7 @@ module _ (column c : ℕ) (in-set : in_set c ≡ true) where
   spans-none low high =
       sym (span-other column c (λ e. omega arith) ∙ rw (one-above c (omega arith), two-below c high)
       (go (within 0x300 0x36f c))) where
-        go : (t : Bool) → columns_of (cond t (Columns 0) Outside) ≡ 0
+        go : (t : Bool) → unwrap_or {T = ℕ} (cond t (Some 0) None) 0 ≡ 0
         go true = refl
         go false = refl
 
@@ -165,7 +164,7 @@ module _ (column c : ℕ) (in-set : in_set c ≡ true) where
   spans-two low =
       sym (span-other column c (λ e. omega arith) ∙ rw (one-above c (omega arith), within-above 0x300 0x36f c (omega arith))
       (go (takes_two c) (rw (one-above c (omega arith), within-above 0x300 0x36f c (omega arith)) at (has-columns (λ e. omega arith))))) where
-        go : (t : Bool) → is_columns (cond t (Columns 2) Outside) ≡ true → columns_of (cond t (Columns 2) Outside) ≡ 2
+        go : (t : Bool) → is_some {T = ℕ} (cond t (Some 2) None) ≡ true → unwrap_or {T = ℕ} (cond t (Some 2) None) 0 ≡ 2
         go true e = refl
         go false e = absurd (true-not-false (sym e))
 
@@ -173,5 +172,5 @@ module _ (column c : ℕ) (in-set : in_set c ≡ true) where
 pub tab-spans : (column c r : ℕ) → c ≡ 9 → r ≡ tab_columns column → r ≡ span column c
 tab-spans column c r at-tab e = rw (at-tab, span-tab column) e
 
-pub other-spans : (column c : ℕ) (w : Width) (r : ℕ) → (c ≡ 9 → ⊥) → w ≡ width_of c → r ≡ columns_of w → r ≡ span column c
+pub other-spans : (column c : ℕ) (w : Option ℕ) (r : ℕ) → (c ≡ 9 → ⊥) → w ≡ width_of c → r ≡ unwrap_or w 0 → r ≡ span column c
 other-spans column c w r no-tab is e = rw (span-other column c no-tab, ← is) e

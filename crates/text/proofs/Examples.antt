@@ -1,4 +1,6 @@
 -- Computed examples of the definitions, at their edges. Each is settled by computing both sides.
+use Rattle.std.specs.Prelude.{Option, None, Some}
+use Rattle.text.specs.declared.Character.{Character}
 use Prim.Native.Nat.{ℕ}
 use Prim.Native.String.{String}
 use mathlib.Core.Path.{◌≡◌, refl}
@@ -6,46 +8,42 @@ use mathlib.Core.Bool.{Bool, true, false}
 use mathlib.Core.List.{List, [], ◌∷◌, map}
 use Rattle.seq.specs.Lists.{all}
 use Rattle.seq.specs.Ascii.{ascii}
-use Rattle.text.specs.declared.Width.{Width}
-use Rattle.text.specs.declared.Width.TheVariants.{Columns, Outside}
-use Rattle.text.specs.declared.Decoded.{Decoded}
-use Rattle.text.specs.declared.Decoded.TheVariants.{Character, Refused}
 use Rattle.text.specs.Characters.{width_of, tab_columns, in_set, span}
-use Rattle.text.specs.Utf8.{continues, from_two, from_three, decoded, character, chars_from, char_indices, well_from, well_formed}
+use Rattle.text.specs.Utf8.{character_of, continues, from_two, from_three, decoded, character, chars_from, char_indices, well_from, well_formed}
 use Rattle.text.specs.Trim.{trim_end}
 use Rattle.text.specs.Rule.{to_plus, parts_at_plus, drop_trailing_colon, fills, is_segment, closed_segments, is_rule}
 
 -- ---- widths: below, at and above each end of the ranges
 -- the widths of characters
-unfoldable widths : List ℕ → List Width
+unfoldable widths : List ℕ → List (Option ℕ)
 unfolding width_of
 widths = map width_of
 
-one-column-ascii : widths (0x1f ∷ 0x20 ∷ 0x7e ∷ 0x7f ∷ []) ≡ Outside ∷ Columns 1 ∷ Columns 1 ∷ Outside ∷ []
+one-column-ascii : widths (0x1f ∷ 0x20 ∷ 0x7e ∷ 0x7f ∷ []) ≡ None ∷ Some 1 ∷ Some 1 ∷ None ∷ []
 unfolding widths
 one-column-ascii = refl
 
-one-column-latin : widths (0xa0 ∷ 0xa1 ∷ 0xac ∷ 0xad ∷ 0xae ∷ 0x17f ∷ 0x180 ∷ []) ≡ Outside ∷ Columns 1 ∷ Columns 1 ∷ Outside ∷ Columns 1 ∷ Columns 1 ∷ Outside ∷ []
+one-column-latin : widths (0xa0 ∷ 0xa1 ∷ 0xac ∷ 0xad ∷ 0xae ∷ 0x17f ∷ 0x180 ∷ []) ≡ None ∷ Some 1 ∷ Some 1 ∷ None ∷ Some 1 ∷ Some 1 ∷ None ∷ []
 unfolding widths
 one-column-latin = refl
 
-marks-take-none : widths (0x2ff ∷ 0x300 ∷ 0x36f ∷ 0x370 ∷ []) ≡ Outside ∷ Columns 0 ∷ Columns 0 ∷ Outside ∷ []
+marks-take-none : widths (0x2ff ∷ 0x300 ∷ 0x36f ∷ 0x370 ∷ []) ≡ None ∷ Some 0 ∷ Some 0 ∷ None ∷ []
 unfolding widths
 marks-take-none = refl
 
-two-columns-kana : widths (0x3040 ∷ 0x3041 ∷ 0x3096 ∷ 0x3097 ∷ 0x30a0 ∷ 0x30a1 ∷ 0x30fa ∷ 0x30fb ∷ []) ≡ Outside ∷ Columns 2 ∷ Columns 2 ∷ Outside ∷ Outside ∷ Columns 2 ∷ Columns 2 ∷ Outside ∷ []
+two-columns-kana : widths (0x3040 ∷ 0x3041 ∷ 0x3096 ∷ 0x3097 ∷ 0x30a0 ∷ 0x30a1 ∷ 0x30fa ∷ 0x30fb ∷ []) ≡ None ∷ Some 2 ∷ Some 2 ∷ None ∷ None ∷ Some 2 ∷ Some 2 ∷ None ∷ []
 unfolding widths
 two-columns-kana = refl
 
-two-columns-han-and-hangul : widths (0x4dff ∷ 0x4e00 ∷ 0x9fff ∷ 0xa000 ∷ 0xabff ∷ 0xac00 ∷ 0xd7a3 ∷ 0xd7a4 ∷ []) ≡ Outside ∷ Columns 2 ∷ Columns 2 ∷ Outside ∷ Outside ∷ Columns 2 ∷ Columns 2 ∷ Outside ∷ []
+two-columns-han-and-hangul : widths (0x4dff ∷ 0x4e00 ∷ 0x9fff ∷ 0xa000 ∷ 0xabff ∷ 0xac00 ∷ 0xd7a3 ∷ 0xd7a4 ∷ []) ≡ None ∷ Some 2 ∷ Some 2 ∷ None ∷ None ∷ Some 2 ∷ Some 2 ∷ None ∷ []
 unfolding widths
 two-columns-han-and-hangul = refl
 
-two-columns-full-width : widths (0xff00 ∷ 0xff01 ∷ 0xff60 ∷ 0xff61 ∷ []) ≡ Outside ∷ Columns 2 ∷ Columns 2 ∷ Outside ∷ []
+two-columns-full-width : widths (0xff00 ∷ 0xff01 ∷ 0xff60 ∷ 0xff61 ∷ []) ≡ None ∷ Some 2 ∷ Some 2 ∷ None ∷ []
 unfolding widths
 two-columns-full-width = refl
 
-a-tab-has-no-width : width_of 9 ≡ Outside
+a-tab-has-no-width : width_of 9 ≡ None
 unfolding widths
 a-tab-has-no-width = refl
 
@@ -65,77 +63,77 @@ spans-at-column-one = refl
 
 -- ---- UTF-8
 -- the character at the start of the bytes
-unfoldable read : List ℕ → Decoded
+unfoldable read : List ℕ → Option Character
 unfolding character decoded from_two from_three in_set width_of
 read s = character s
 
-one_byte : read (0x61 ∷ []) ≡ Character 0x61 1
+one_byte : read (0x61 ∷ []) ≡ Some (character_of 0x61 1)
 unfolding read
 one_byte = refl
 
-a-tab : read (9 ∷ []) ≡ Character 9 1
+a-tab : read (9 ∷ []) ≡ Some (character_of 9 1)
 unfolding read
 a-tab = refl
 
-two_bytes : read (0xc3 ∷ 0xa9 ∷ []) ≡ Character 0xe9 2
+two_bytes : read (0xc3 ∷ 0xa9 ∷ []) ≡ Some (character_of 0xe9 2)
 unfolding read
 two_bytes = refl
 
-three-bytes : read (0xe6 ∷ 0xbc ∷ 0xa2 ∷ []) ≡ Character 0x6f22 3
+three-bytes : read (0xe6 ∷ 0xbc ∷ 0xa2 ∷ []) ≡ Some (character_of 0x6f22 3)
 unfolding read
 three-bytes = refl
 
-first-of-two-bytes : read (0xc2 ∷ 0xa1 ∷ []) ≡ Character 0xa1 2
+first-of-two-bytes : read (0xc2 ∷ 0xa1 ∷ []) ≡ Some (character_of 0xa1 2)
 unfolding read
 first-of-two-bytes = refl
 
-last-of-three-bytes : read (0xef ∷ 0xbd ∷ 0xa0 ∷ []) ≡ Character 0xff60 3
+last-of-three-bytes : read (0xef ∷ 0xbd ∷ 0xa0 ∷ []) ≡ Some (character_of 0xff60 3)
 unfolding read
 last-of-three-bytes = refl
 
 -- 61 in two bytes
-overlong-two : read (0xc1 ∷ 0xa1 ∷ []) ≡ Refused
+overlong-two : read (0xc1 ∷ 0xa1 ∷ []) ≡ None
 unfolding read
 overlong-two = refl
 
 -- E9 in three bytes
-overlong-three : read (0xe0 ∷ 0x83 ∷ 0xa9 ∷ []) ≡ Refused
+overlong-three : read (0xe0 ∷ 0x83 ∷ 0xa9 ∷ []) ≡ None
 unfolding read
 overlong-three = refl
 
-truncated-two : read (0xc3 ∷ []) ≡ Refused
+truncated-two : read (0xc3 ∷ []) ≡ None
 unfolding read
 truncated-two = refl
 
-truncated-three : read (0xe6 ∷ 0xbc ∷ []) ≡ Refused
+truncated-three : read (0xe6 ∷ 0xbc ∷ []) ≡ None
 unfolding read
 truncated-three = refl
 
-broken-two : read (0xc3 ∷ 0x28 ∷ []) ≡ Refused
+broken-two : read (0xc3 ∷ 0x28 ∷ []) ≡ None
 unfolding read
 broken-two = refl
 
-broken-three : read (0xe6 ∷ 0xbc ∷ 0x28 ∷ []) ≡ Refused
+broken-three : read (0xe6 ∷ 0xbc ∷ 0x28 ∷ []) ≡ None
 unfolding read
 broken-three = refl
 
-surrogate : read (0xed ∷ 0xa0 ∷ 0x80 ∷ []) ≡ Refused
+surrogate : read (0xed ∷ 0xa0 ∷ 0x80 ∷ []) ≡ None
 unfolding read
 surrogate = refl
 
-four_bytes : read (0xf0 ∷ 0x9f ∷ 0x98 ∷ 0x80 ∷ []) ≡ Refused
+four_bytes : read (0xf0 ∷ 0x9f ∷ 0x98 ∷ 0x80 ∷ []) ≡ None
 unfolding read
 four_bytes = refl
 
-starts-inside : read (0x80 ∷ 0x61 ∷ []) ≡ Refused
+starts-inside : read (0x80 ∷ 0x61 ∷ []) ≡ None
 unfolding read
 starts-inside = refl
 
-outside-the-set : read (0x7f ∷ []) ≡ Refused
+outside-the-set : read (0x7f ∷ []) ≡ None
 unfolding read
 outside-the-set = refl
 
-no_byte : read [] ≡ Refused
+no_byte : read [] ≡ None
 unfolding read
 no_byte = refl
 

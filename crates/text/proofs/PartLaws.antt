@@ -1,4 +1,7 @@
 -- Parts of a well-formed line: cut where no byte goes on with a character, they are well formed.
+use Rattle.std.specs.Prelude.{Option, None, Some}
+use Rattle.std.specs.Bool.{then_some}
+use Rattle.text.specs.declared.Character.{Character}
 use Prim.Native.Nat.{ℕ, zero, suc, ◌+◌, ◌-◌, ◌≤◌, ◌<◌}
 use mathlib.Core.Path.{◌≡◌, refl, sym, ap, ◌∙◌}
 use mathlib.Core.Logic.{⊎_elim}
@@ -10,10 +13,8 @@ use lib.Seq.{take-nil, drop-nil, get_or-take}
 use lib.Dec.{eqb}
 use borrow.Author.Tests.{lt-ltb, eqb-true}
 use Rattle.seq.proofs.Tests.{true-not-false, or_cases, le-or-lt}
-use Rattle.text.specs.declared.Decoded.{Decoded}
-use Rattle.text.specs.declared.Decoded.TheVariants.{Character, Refused}
 use Rattle.text.specs.Characters.{space, tab, in_set}
-use Rattle.text.specs.Utf8.{continues, character_if, decoded, character, CharIndex, chars_step, chars_from, well_step, well_from, well_formed}
+use Rattle.text.specs.Utf8.{character_of, continues, decoded, character, CharIndex, chars_step, chars_from, well_step, well_from, well_formed}
 use Rattle.text.specs.Trim.{blank, before_trimmed, trim_end}
 use Rattle.text.proofs.Utf8Laws.{character-goes-on, character-kept, character-one-byte}
 use Rattle.text.proofs.TrimLaws.{trim-prefix}
@@ -29,10 +30,10 @@ drop-well zero zero (b ∷ bs) w goes end = w
 drop-well (suc skip) zero (b ∷ bs) w goes end = absurd (true-not-false (sym (goes 0 (omega arith)) ∙ end))
 drop-well (suc skip) (suc n) (b ∷ bs) w goes end = drop-well skip n bs w (λ i h. goes (suc i) (omega arith)) end
 drop-well zero (suc n) (b ∷ bs) w goes end = go (character (b ∷ bs)) refl w (λ k w g. drop-well k n bs w g end) where
-  go : (d : Decoded) → character (b ∷ bs) ≡ d → well_step d (λ k. well_from k bs) ≡ true → ((k : ℕ) → well_from k bs ≡ true → Goes k bs → well_from 0 (drop n bs) ≡ true)
+  go : (d : Option Character) → character (b ∷ bs) ≡ d → well_step d (λ k. well_from k bs) ≡ true → ((k : ℕ) → well_from k bs ≡ true → Goes k bs → well_from 0 (drop n bs) ≡ true)
       → well_from 0 (drop n bs) ≡ true
-  go (Character v k) e w later = later (k - 1) w (λ i h. character-goes-on (b ∷ bs) v k e (suc i) (omega arith) (omega arith))
-  go Refused e w later = absurd (true-not-false (sym w))
+  go (Some found) e w later = later (found.size - 1) w (λ i h. character-goes-on (b ∷ bs) found e (suc i) (omega arith) (omega arith))
+  go None e w later = absurd (true-not-false (sym w))
 
 take-well : (skip n : ℕ) (s : List ℕ) → well_from skip s ≡ true → Goes skip s → continues (get_or s n 0) ≡ false → well_from skip (take n s) ≡ true
 unfolding well_from
@@ -40,15 +41,15 @@ take-well skip n [] w goes end = rw (take-nil n)
 take-well skip zero (b ∷ bs) w goes end = refl
 take-well (suc skip) (suc n) (b ∷ bs) w goes end = take-well skip n bs w (λ i h. goes (suc i) (omega arith)) end
 take-well zero (suc n) (b ∷ bs) w goes end = go (character (b ∷ bs)) refl w (λ k w g. take-well k n bs w g end) where
-  go : (d : Decoded) → character (b ∷ bs) ≡ d → well_step d (λ k. well_from k bs) ≡ true → ((k : ℕ) → well_from k bs ≡ true → Goes k bs → well_from k (take n bs) ≡ true)
+  go : (d : Option Character) → character (b ∷ bs) ≡ d → well_step d (λ k. well_from k bs) ≡ true → ((k : ℕ) → well_from k bs ≡ true → Goes k bs → well_from k (take n bs) ≡ true)
       → well_step (character (b ∷ take n bs)) (λ k. well_from k (take n bs)) ≡ true
-  go (Character v k) e w later =
+  go (Some found) e w later =
       ⊎_elim
-      (λ (fits : k ≤ suc n).
-      rw (character-kept (b ∷ bs) v k e (b ∷ take n bs) (λ i h. get_or-take (suc n) (b ∷ bs) i 0 (omega arith)))
-      (later (k - 1) w (λ i h. character-goes-on (b ∷ bs) v k e (suc i) (omega arith) (omega arith))))
-      (λ (cut : suc n < k). absurd (true-not-false (sym (character-goes-on (b ∷ bs) v k e (suc n) (omega arith) cut) ∙ end))) (le-or-lt k (suc n))
-  go Refused e w later = absurd (true-not-false (sym w))
+      (λ (fits : found.size ≤ suc n).
+      rw (character-kept (b ∷ bs) found e (b ∷ take n bs) (λ i h. get_or-take (suc n) (b ∷ bs) i 0 (omega arith)))
+      (later (found.size - 1) w (λ i h. character-goes-on (b ∷ bs) found e (suc i) (omega arith) (omega arith))))
+      (λ (cut : suc n < found.size). absurd (true-not-false (sym (character-goes-on (b ∷ bs) found e (suc n) (omega arith) cut) ∙ end))) (le-or-lt found.size (suc n))
+  go None e w later = absurd (true-not-false (sym w))
 
 module _ (s : List ℕ) (w : well_formed s ≡ true) where
   pub well-drop : (n : ℕ) → continues (get_or s n 0) ≡ false → well_formed (drop n s) ≡ true
@@ -60,7 +61,7 @@ module _ (s : List ℕ) (w : well_formed s ≡ true) where
 pub well-rest : (b : ℕ) (bs : List ℕ) → b < 0x80 → well_formed (b ∷ bs) ≡ true → well_formed bs ≡ true
 unfolding well_from character decoded
 well-rest b bs low w = go (in_set b) (rw (lt-ltb b 0x80 low) at w) where
-  go : (t : Bool) → well_step (character_if t b 1) (λ k. well_from k bs) ≡ true → well_formed bs ≡ true
+  go : (t : Bool) → well_step (then_some t (character_of b 1)) (λ k. well_from k bs) ≡ true → well_formed bs ≡ true
   go true w = w
   go false w = absurd (true-not-false (sym w))
 
@@ -93,15 +94,15 @@ low-character at (suc skip) (b ∷ bs) {c} m low =
     let next : c.byte - at ≡ suc (c.byte - (at + 1)) = omega arith in
     (omega arith, rw next same)
 low-character at zero (b ∷ bs) {c} m low = go (character (b ∷ bs)) refl m (λ k n. low-character (at + 1) k bs n low) where
-  go : (d : Decoded) → character (b ∷ bs) ≡ d → Memᴰ c (chars_step at d (λ k. chars_from (at + 1) k bs))
+  go : (d : Option Character) → character (b ∷ bs) ≡ d → Memᴰ c (chars_step at d (λ k. chars_from (at + 1) k bs))
       → ((k : ℕ) → Memᴰ c (chars_from (at + 1) k bs) → (at + 1 ≤ c.byte) × (get_or bs (c.byte - (at + 1)) 0 ≡ c.value))
       → (at ≤ c.byte) × (get_or (b ∷ bs) (c.byte - at) 0 ≡ c.value)
-  go (Character v k) e (Memᴰ.head q) later =
-      let (here, value) : (c.byte ≡ at) × (c.value ≡ v) = (ap (λ (c : CharIndex). c.byte) q, ap (λ (c : CharIndex). c.value) q) in
+  go (Some found) e (Memᴰ.head q) later =
+      let (here, value) : (c.byte ≡ at) × (c.value ≡ found.value) = (ap (λ (c : CharIndex). c.byte) q, ap (λ (c : CharIndex). c.value) q) in
       let first : c.byte - at ≡ 0 = omega arith in
-      (omega arith, rw first (character-one-byte (b ∷ bs) v k e (omega arith) ∙ sym value))
-  go (Character v k) e (Memᴰ.tail n) later =
-      let (inside, same) = later (k - 1) n in
+      (omega arith, rw first (character-one-byte (b ∷ bs) found e (omega arith) ∙ sym value))
+  go (Some found) e (Memᴰ.tail n) later =
+      let (inside, same) = later (found.size - 1) n in
       let next : c.byte - at ≡ suc (c.byte - (at + 1)) = omega arith in
       (omega arith, rw next same)
-  go Refused e m later = elim m [ ]
+  go None e m later = elim m [ ]

@@ -1,4 +1,5 @@
 -- Laws of plain lines: all characters 20 to 7E.
+use Rattle.std.specs.Prelude.{Option, Some, unwrap_or}
 use Prim.Native.Nat.{ℕ, zero, suc, ◌+◌, ◌≤◌, ◌<◌}
 use mathlib.Core.Path.{◌≡◌, refl, sym, ap, ◌∙◌}
 use mathlib.Core.Bool.{Bool, true, ◌&&◌}
@@ -10,9 +11,8 @@ use Rattle.seq.proofs.Tests.{both_true, and_intro}
 use Rattle.seq.specs.Lists.{within, all}
 use Rattle.seq.proofs.ListsLaws.{within_low, within-high}
 use Rattle.seq.proofs.Walks.{all_append, all-next, all-ends}
-use Rattle.text.specs.declared.Decoded.TheVariants.{Character}
-use Rattle.text.specs.Utf8.{character, well_from, well_formed, plain}
-use Rattle.text.specs.Characters.{columns_of, span}
+use Rattle.text.specs.Utf8.{character_of, character, well_from, well_formed, plain}
+use Rattle.text.specs.Characters.{span}
 use Rattle.text.proofs.CharactersLaws.{ascii-one-column, span-other}
 use Rattle.text.proofs.Utf8Laws.{character-ascii}
 
@@ -26,12 +26,12 @@ unfolding plain
 plain-ends s i t past so_far = all-ends (λ b. within 0x20 0x7e b) s i t so_far past
 
 -- ---- such a line is in the set, a byte a character
-first_plain : (b : ℕ) (bs : List ℕ) → within 0x20 0x7e b && plain bs ≡ true → character (b ∷ bs) ≡ Character b 1
+first_plain : (b : ℕ) (bs : List ℕ) → within 0x20 0x7e b && plain bs ≡ true → character (b ∷ bs) ≡ Some (character_of b 1)
 first_plain b bs e =
     let low-high = (both_true (within 0x20 0x7e b) (plain bs) e).0 in
     character-ascii b bs (within_low 0x20 0x7e b low-high) (within-high 0x20 0x7e b low-high)
 
-pub plain-first : (b : ℕ) (bs : List ℕ) → plain (b ∷ bs) ≡ true → character (b ∷ bs) ≡ Character b 1
+pub plain-first : (b : ℕ) (bs : List ℕ) → plain (b ∷ bs) ≡ true → character (b ∷ bs) ≡ Some (character_of b 1)
 unfolding plain all
 plain-first b bs e = first_plain b bs e
 
@@ -44,7 +44,7 @@ unfolding plain all
 plain-span column b bs e =
     let inside = (both_true (within 0x20 0x7e b) (plain bs) e).0 in
     let low = within_low 0x20 0x7e b inside in
-    span-other column b (λ h. omega arith) ∙ ap columns_of (ascii-one-column b low (within-high 0x20 0x7e b inside))
+    span-other column b (λ h. omega arith) ∙ ap (λ (w : Option ℕ). unwrap_or w 0) (ascii-one-column b low (within-high 0x20 0x7e b inside))
 
 -- ---- parts of such a line
 pub plain-take : (n : ℕ) (s : List ℕ) → plain s ≡ true → plain (take n s) ≡ true

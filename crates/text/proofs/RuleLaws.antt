@@ -1,34 +1,49 @@
 -- Laws of specs/Rule.antt.
 use Prim.Native.Nat.{ℕ, suc, ◌+◌, ◌-◌, ◌≤◌, ◌<◌}
 use mathlib.Core.Path.{◌≡◌, refl, sym, ap, ◌∙◌}
+use mathlib.Core.Logic.{◌⊎◌, inl, inr}
 use mathlib.Core.Bool.{Bool, true, false, not, ◌&&◌, ◌||◌, cond}
 use mathlib.Core.List.{List, [], ◌∷◌, ◌++◌}
 use native.Mathlib.Numerals.{add-one}
 use native.Mathlib.Omega.{arith}
 use lib.Dec.{eqb}
-use lib.ListN.{length, take, drop, get_or, drop_of_length-le}
-use borrow.Author.Tests.{eq-eqb, ne_eqb, not-true, not-false}
+use lib.ListN.{length, take, drop, take-append-drop}
+use borrow.Author.Tests.{eqb-true, eqb-false, ne_eqb, lt-ltb, le-ltb, not-true, not-false}
 use Rattle.seq.proofs.Tests.{true-not-false}
 use Rattle.seq.specs.Lists.{all, any, is_empty}
-use Rattle.seq.proofs.ListsLaws.{drop-step, part_to_end, last_apart}
+use Rattle.seq.proofs.ListsLaws.{part_to_end}
 use Rattle.text.specs.Characters.{plus, colon}
-use Rattle.text.specs.Rule.{to_plus, parts_at_plus, onto_first, drop_leading_colon, drop_trailing_colon, fills, is_segment, closed_segments, is_rule}
+use Rattle.std.specs.Prelude.{Option, None, Some, MatchOption, unwrap_or, position}
+use Rattle.std.specs.List.{list_all, position_or_len}
+use Rattle.std.specs.Cmp.Lexicographic.{same_text, other_text}
+use denote.Ref.{Bor}
+use lib.Pointwise.{pointwise}
+use Rattle.seq.proofs.Tests.{le-or-lt}
+use Rattle.text.specs.Rule.{to_plus, parts_at_plus, onto_first, drop_trailing_colon, fills, is_segment, closed_segments, is_rule}
 
--- ---- to the first `+`, from left to right
-module _ (s : List ℕ) (i : ℕ) (passed : length (to_plus s) ≡ i + length (to_plus (drop i s))) where
-  pub plus-here : i < length s → get_or s i 0 ≡ plus → i ≡ length (to_plus s)
-  unfolding to_plus
-  plus-here h e = let k : to_plus (drop i s) ≡ [] = rw (drop-step s i h, eq-eqb (get_or s i 0) plus e) in omega (arith, rw k at passed)
+-- ---- to the first `+`
+to_plus-length : (s : List ℕ) → length (to_plus s) ≡ position_or_len (λ b. eqb b plus) s
+unfolding to_plus
+to_plus-length [] = refl
+to_plus-length (b ∷ bs) = go (eqb b plus) (to_plus-length bs) where
+  go : (t : Bool) → length (to_plus bs) ≡ position_or_len (λ b. eqb b plus) bs → length (cond t [] (b ∷ to_plus bs)) ≡ cond (not t) (1 + position_or_len (λ b. eqb b plus) bs) 0
+  go true later = refl
+  go false later = omega arith
 
-  pub no-plus-here : i < length s → (get_or s i 0 ≡ plus → ⊥) → length (to_plus s) ≡ i + 1 + length (to_plus (drop (i + 1) s))
-  unfolding to_plus
-  no-plus-here h e =
-      let k : to_plus (drop i s) ≡ get_or s i 0 ∷ to_plus (drop (i + 1) s) = rw (drop-step s i h, ne_eqb (get_or s i 0) plus e) in
-      omega (arith, rw k at passed)
+to_plus-shorter : (s : List ℕ) → length (to_plus s) ≤ length s
+unfolding to_plus
+to_plus-shorter [] = omega arith
+to_plus-shorter (b ∷ bs) = go (eqb b plus) (to_plus-shorter bs) where
+  go : (t : Bool) → length (to_plus bs) ≤ length bs → length (cond t [] (b ∷ to_plus bs)) ≤ suc (length bs)
+  go true later = omega arith
+  go false later = omega arith
 
-  pub no-plus-left : i ≤ length s → length s ≤ i → i ≡ length (to_plus s)
-  unfolding to_plus
-  no-plus-left h past = omega (arith, rw (drop_of_length-le s past) at passed)
+pub plus-found : (s : List ℕ) → unwrap_or (position (λ b. eqb b plus) s) (length s) ≡ length (to_plus s)
+plus-found s = go (le-or-lt (length s) (position_or_len (λ b. eqb b plus) s)) ∙ sym (to_plus-length s) where
+  go : (length s ≤ position_or_len (λ b. eqb b plus) s) ⊎ (position_or_len (λ b. eqb b plus) s < length s)
+      → unwrap_or (position (λ b. eqb b plus) s) (length s) ≡ position_or_len (λ b. eqb b plus) s
+  go (inl past) = rw (le-ltb (position_or_len (λ b. eqb b plus) s) (length s) past) (omega (arith, to_plus-length s, to_plus-shorter s))
+  go (inr here) = rw (lt-ltb (position_or_len (λ b. eqb b plus) s) (length s) here)
 
 -- ---- the parts between
 pub parts_none : (s : List ℕ) → length s ≤ length (to_plus s) → parts_at_plus s ≡ s ∷ []
@@ -77,18 +92,6 @@ unfolding is_rule
 rule-of-segments fill part s h = rw (parts-append part s h) (closed-first fill part s)
 
 -- ---- colons
-pub empty-no-leading-colon : (s : List ℕ) → length s ≡ 0 → s ≡ drop_leading_colon s
-empty-no-leading-colon [] h = refl
-empty-no-leading-colon (b ∷ bs) h = absurd (omega arith)
-
-pub no-leading-colon : (s : List ℕ) → (get_or s 0 0 ≡ colon → ⊥) → s ≡ drop_leading_colon s
-no-leading-colon [] h = refl
-no-leading-colon (b ∷ bs) h = rw (ne_eqb b colon h)
-
-pub leading-colon : (s : List ℕ) → get_or s 0 0 ≡ colon → take (length s - 1) (drop 1 s) ≡ drop_leading_colon s
-leading-colon [] h = absurd (omega arith)
-leading-colon (b ∷ bs) h = part_to_end (b ∷ bs) 1 ∙ rw (eq-eqb b colon h)
-
 pub drop-colon : (s : List ℕ) → drop_trailing_colon (s ++ colon ∷ []) ≡ s
 unfolding drop_trailing_colon
 drop-colon [] = refl
@@ -101,87 +104,87 @@ keep-other [] b h = rw (ne_eqb b colon h)
 keep-other (a ∷ []) b h = rw (ne_eqb b colon h)
 keep-other (a ∷ c ∷ s) b h = ap (λ (l : List ℕ). a ∷ l) (keep-other (c ∷ s) b h)
 
-pub empty-no-trailing-colon : (s : List ℕ) → length s ≡ 0 → s ≡ drop_trailing_colon s
+-- the last byte, stripped where it is a colon
+pub no-trailing-colon : (s : List ℕ) → (drop (length s - 1) s ≡ colon ∷ [] → ⊥) → s ≡ drop_trailing_colon s
 unfolding drop_trailing_colon
-empty-no-trailing-colon [] h = refl
-empty-no-trailing-colon (b ∷ bs) h = absurd (omega arith)
+no-trailing-colon [] h = refl
+no-trailing-colon (b ∷ []) h = rw (ne_eqb b colon (λ e. h (ap (λ (a : ℕ). a ∷ []) e)))
+no-trailing-colon (a ∷ b ∷ s) h =
+    let whole : length (a ∷ b ∷ s) - 1 ≡ suc (length s) = omega arith in
+    let later : length (b ∷ s) - 1 ≡ length s = omega arith in
+    ap (λ (l : List ℕ). a ∷ l) (no-trailing-colon (b ∷ s) (λ e. h (rw whole (rw later at e))))
 
-module _ (s : List ℕ) (some : length s ≡ 0 → ⊥) where
-  pub no-trailing-colon : (get_or s (length s - 1) 0 ≡ colon → ⊥) → s ≡ drop_trailing_colon s
-  no-trailing-colon h = last_apart s some ∙ sym (keep-other (take (length s - 1) s) (get_or s (length s - 1) 0) h) ∙ ap drop_trailing_colon (sym (last_apart s some))
+trailing-colon : (s : List ℕ) → drop (length s - 1) s ≡ colon ∷ [] → take (length s - 1) s ≡ drop_trailing_colon s
+trailing-colon s h =
+    sym (drop-colon (take (length s - 1) s)) ∙ ap (λ (l : List ℕ). drop_trailing_colon (take (length s - 1) s ++ l)) (sym h) ∙ ap drop_trailing_colon (take-append-drop (length s - 1) s)
 
-  pub trailing-colon : get_or s (length s - 1) 0 ≡ colon → take (length s - 1) s ≡ drop_trailing_colon s
-  trailing-colon h =
-      sym (drop-colon (take (length s - 1) s)) ∙ ap (λ (b : ℕ). drop_trailing_colon (take (length s - 1) s ++ b ∷ [])) (sym h) ∙ ap drop_trailing_colon (sym (last_apart s some))
+pub trailing-colon-stripped : (s : Bor (List ℕ)) (o : Option (Bor (List ℕ)))
+    → MatchOption o (pointwise eqb (drop (length s.now - 1) s.now) (colon ∷ []) ≡ false)
+    (λ x. (pointwise eqb (drop (length s.now - 1) s.now) (colon ∷ []) ≡ true) × (x.now ≡ take (length s.now - 1) s.now) × (length x.now + 1 ≡ length s.now))
+    → (r : Bor (List ℕ)) → r ≡ unwrap_or o s → r.now ≡ drop_trailing_colon s.now
+trailing-colon-stripped s None h r is = rw is (no-trailing-colon s.now (other_text (drop (length s.now - 1) s.now) (colon ∷ []) (sym h)))
+trailing-colon-stripped s (Some x) h r is = rw (is, h.1) (trailing-colon s.now (same_text (drop (length s.now - 1) s.now) (colon ∷ []) (sym h.0)))
 
--- ---- fill bytes, from left to right
-module _ (fill : ℕ) (s : List ℕ) where
-  pub fills-none : length s ≡ 0 → false ≡ fills fill s
+-- ---- fill bytes
+module _ (fill : ℕ) (s : List ℕ) (none : Bool) (is : none ≡ eqb (length s) 0) where
+  pub fills-none : none ≡ true → not none ≡ fills fill s
   unfolding fills
-  fills-none h = go s h where
-    go : (s : List ℕ) → length s ≡ 0 → false ≡ not (is_empty s) && all (λ b. eqb b fill) s
+  fills-none h = rw h (go s (sym is ∙ h)) where
+    go : (s : List ℕ) → eqb (length s) 0 ≡ true → false ≡ not (is_empty s) && all (λ b. eqb b fill) s
     go [] h = refl
-    go (b ∷ bs) h = absurd (omega arith)
+    go (b ∷ bs) h = absurd (omega (arith, eqb-true (length (b ∷ bs)) 0 h))
 
-  pub fills-from : (length s ≡ 0 → ⊥) → fills fill s ≡ all (λ b. eqb b fill) (drop 0 s)
-  unfolding fills
-  fills-from = go s where
-    go : (s : List ℕ) → (length s ≡ 0 → ⊥) → not (is_empty s) && all (λ b. eqb b fill) s ≡ all (λ b. eqb b fill) s
-    go [] h = absurd (h refl)
-    go (b ∷ bs) h = refl
+  pub fills-all : none ≡ false → (t : Bool) → t ≡ list_all (λ b. eqb b fill) s → t ≡ fills fill s
+  unfolding fills all
+  fills-all h t told = told ∙ go s (sym is ∙ h) where
+    each : (s : List ℕ) → list_all (λ b. eqb b fill) s ≡ all (λ b. eqb b fill) s
+    each [] = refl
+    each (b ∷ bs) = ap (λ (u : Bool). eqb b fill && u) (each bs)
 
-  module _ (i : ℕ) (filled : fills fill s ≡ all (λ b. eqb b fill) (drop i s)) where
-    pub other-here : i < length s → (get_or s i 0 ≡ fill → ⊥) → false ≡ fills fill s
-    unfolding all
-    other-here h e = rw (filled, drop-step s i h, ne_eqb (get_or s i 0) fill e)
-
-    pub fill_here : i < length s → get_or s i 0 ≡ fill → fills fill s ≡ all (λ b. eqb b fill) (drop (i + 1) s)
-    unfolding all
-    fill_here h e = filled ∙ rw (drop-step s i h, eq-eqb (get_or s i 0) fill e)
-
-    pub fills-all : length s ≤ i → true ≡ fills fill s
-    unfolding all
-    fills-all h = rw (filled, drop_of_length-le s h)
+    go : (s : List ℕ) → eqb (length s) 0 ≡ false → list_all (λ b. eqb b fill) s ≡ not (is_empty s) && all (λ b. eqb b fill) s
+    go [] h = absurd (true-not-false h)
+    go (b ∷ bs) h = each (b ∷ bs)
 
 -- ---- a rule, segment by segment
 module _ (fill : ℕ) (s : List ℕ) where
-  pub empty-no-rule : length s ≡ 0 → false ≡ is_rule fill s
-  unfolding is_rule
-  empty-no-rule h = go s h where
-    go : (s : List ℕ) → length s ≡ 0 → false ≡ is_rule fill s
-    go [] h = refl
-    go (b ∷ bs) h = absurd (omega arith)
-
-  pub no-plus-no-rule : (get_or s 0 0 ≡ plus → ⊥) → false ≡ is_rule fill s
+  pub no-plus-no-rule : pointwise eqb (take 1 s) (plus ∷ []) ≡ false → false ≡ is_rule fill s
   unfolding is_rule
   no-plus-no-rule h = go s h where
-    go : (s : List ℕ) → (get_or s 0 0 ≡ plus → ⊥) → false ≡ is_rule fill s
+    go : (s : List ℕ) → pointwise eqb (take 1 s) (plus ∷ []) ≡ false → false ≡ is_rule fill s
     go [] h = refl
-    go (b ∷ bs) h = rw (ne_eqb b plus h)
+    go (b ∷ bs) h = first (eqb b plus) h where
+      first : (t : Bool) → (t && true) ≡ false → false ≡ t && closed_segments fill (parts_at_plus bs)
+      first true h = absurd (true-not-false h)
+      first false h = refl
 
-  pub rule-starts : get_or s 0 0 ≡ plus → is_rule fill s ≡ closed_segments fill (parts_at_plus (take (length s - 1) (drop 1 s)))
+  pub rule-starts : pointwise eqb (take 1 s) (plus ∷ []) ≡ true → (rest : List ℕ) → rest ≡ drop 1 s → is_rule fill s ≡ closed_segments fill (parts_at_plus rest)
   unfolding is_rule
-  rule-starts h = rw (part_to_end s 1) (go s h) where
-    go : (s : List ℕ) → get_or s 0 0 ≡ plus → is_rule fill s ≡ closed_segments fill (parts_at_plus (drop 1 s))
-    go [] h = absurd (omega arith)
-    go (b ∷ bs) h = rw (eq-eqb b plus h)
+  rule-starts h rest is = rw is (go s h) where
+    go : (s : List ℕ) → pointwise eqb (take 1 s) (plus ∷ []) ≡ true → is_rule fill s ≡ closed_segments fill (parts_at_plus (drop 1 s))
+    go [] h = absurd (true-not-false (sym h))
+    go (b ∷ bs) h = first (eqb b plus) h where
+      first : (t : Bool) → (t && true) ≡ true → t && closed_segments fill (parts_at_plus bs) ≡ closed_segments fill (parts_at_plus bs)
+      first true h = refl
+      first false h = absurd (true-not-false (sym h))
 
   module _ (rest : List ℕ) (so_far : is_rule fill s ≡ closed_segments fill (parts_at_plus rest)) where
-    pub rule-ends : length rest ≤ 0 → true ≡ is_rule fill s
-    unfolding closed_segments parts_at_plus
-    rule-ends h = go rest h so_far where
-      go : (rest : List ℕ) → length rest ≤ 0 → is_rule fill s ≡ closed_segments fill (parts_at_plus rest) → true ≡ is_rule fill s
-      go [] h e = sym e
-      go (b ∷ bs) h e = absurd (omega arith)
+    -- nothing is left, or some bytes are
+    module _ (none : Bool) (is : none ≡ eqb (length rest) 0) where
+      pub rule-ends : none ≡ true → true ≡ is_rule fill s
+      unfolding closed_segments parts_at_plus
+      rule-ends h = go rest (eqb-true (length rest) 0 (sym is ∙ h)) so_far where
+        go : (rest : List ℕ) → length rest ≡ 0 → is_rule fill s ≡ closed_segments fill (parts_at_plus rest) → true ≡ is_rule fill s
+        go [] h e = sym e
+        go (b ∷ bs) h e = absurd (omega arith)
 
-    pub rule-unclosed : (end : ℕ) → 0 < length rest → length rest ≤ end → end ≡ length (to_plus rest) → false ≡ is_rule fill s
-    unfolding closed_segments
-    rule-unclosed end some past e = rw (so_far, parts_none rest (omega arith)) (go rest some) where
-      go : (rest : List ℕ) → 0 < length rest → false ≡ is_empty rest
-      go [] h = absurd (omega arith)
-      go (b ∷ bs) h = refl
+      pub rule-unclosed : none ≡ false → (end : ℕ) → end ≡ length (to_plus rest) → length rest ≤ end → false ≡ is_rule fill s
+      unfolding closed_segments
+      rule-unclosed h end e past = rw (so_far, parts_none rest (omega arith)) (go rest (eqb-false (length rest) 0 (sym is ∙ h))) where
+        go : (rest : List ℕ) → (length rest ≡ 0 → ⊥) → false ≡ is_empty rest
+        go [] h = absurd (h refl)
+        go (b ∷ bs) h = refl
 
-    module _ (end : ℕ) (t : Bool) (closed : end < length rest) (e : end ≡ length (to_plus rest)) (f : t ≡ is_segment fill (take end rest)) where
+    module _ (end : ℕ) (e : end ≡ length (to_plus rest)) (closed : end < length rest) (t : Bool) (f : t ≡ is_segment fill (take end rest)) where
       next : is_rule fill s ≡ t && closed_segments fill (parts_at_plus (drop (end + 1) rest))
       next =
           let first : parts_at_plus rest ≡ take end rest ∷ parts_at_plus (drop (end + 1) rest) = rw e (parts_first rest (omega arith)) in

@@ -1,5 +1,7 @@
 -- `Spans c bs n`: the bytes are well formed and take n columns from column c on. Others cite `spans-append`, `spans-single` and
 -- `spans-spaces`; of one text after another `chars-append`, `well-append` and `columns-append`.
+use Rattle.std.specs.Prelude.{Option, None, Some, unwrap_or}
+use Rattle.text.specs.declared.Character.{Character}
 use Prim.Native.Nat.{ℕ, zero, suc, ◌+◌, ◌-◌, ◌≤◌}
 use mathlib.Core.Path.{◌≡◌, refl, sym, ap, ◌∙◌}
 use mathlib.Core.Bool.{true}
@@ -7,21 +9,19 @@ use mathlib.Core.List.{List, [], ◌∷◌, ◌++◌}
 use native.Mathlib.Omega.{arith}
 use lib.ListN.{length, replicate, get_or-append}
 use Rattle.seq.proofs.Tests.{true-not-false}
-use Rattle.text.specs.Characters.{space, columns_of, span}
+use Rattle.text.specs.Characters.{space, span}
 use Rattle.text.specs.Utf8.{CharIndex, character, chars_step, chars_from, char_indices, well_step, well_from, well_formed}
 use Rattle.text.specs.Columns.{columns_from}
-use Rattle.text.specs.declared.Decoded.{Decoded}
-use Rattle.text.specs.declared.Decoded.TheVariants.{Character, Refused}
 use Rattle.text.proofs.CharactersLaws.{span-other, ascii-one-column}
 use Rattle.text.proofs.Utf8Laws.{character-fits, character-kept, character-ascii}
 
 -- ---- characters of one text after another
-module _ (b : ℕ) (bs t : List ℕ) (v k : ℕ) (e : character (b ∷ bs) ≡ Character v k) where
-  rest-fits : k - 1 ≤ length bs
-  rest-fits = omega (arith, character-fits (b ∷ bs) v k e)
+module _ (b : ℕ) (bs t : List ℕ) (c : Character) (e : character (b ∷ bs) ≡ Some c) where
+  rest-fits : c.size - 1 ≤ length bs
+  rest-fits = omega (arith, character-fits (b ∷ bs) c e)
 
-  character-append : character (b ∷ (bs ++ t)) ≡ Character v k
-  character-append = character-kept (b ∷ bs) v k e ((b ∷ bs) ++ t) (λ i h. get_or-append (b ∷ bs) t 0 i (omega (arith, character-fits (b ∷ bs) v k e)))
+  character-append : character (b ∷ (bs ++ t)) ≡ Some c
+  character-append = character-kept (b ∷ bs) c e ((b ∷ bs) ++ t) (λ i h. get_or-append (b ∷ bs) t 0 i (omega (arith, character-fits (b ∷ bs) c e)))
 
 pub chars-append : (at skip : ℕ) (a t : List ℕ) → skip ≤ length a → well_from skip a ≡ true → chars_from at skip (a ++ t) ≡ chars_from at skip a ++ chars_from (at + length a) 0 t
 unfolding chars_from well_from
@@ -30,15 +30,15 @@ chars-append at (suc skip) [] t h w = absurd (omega arith)
 chars-append at (suc skip) (b ∷ bs) t h w =
     chars-append (at + 1) skip bs t (omega arith) w ∙ ap (λ (k : ℕ). chars_from (at + 1) skip bs ++ chars_from k 0 t) (omega arith)
 chars-append at zero (b ∷ bs) t h w = go (character (b ∷ bs)) refl w (λ k i j. chars-append (at + 1) k bs t i j) where
-  go : (d : Decoded) → character (b ∷ bs) ≡ d → well_step d (λ k. well_from k bs) ≡ true
+  go : (d : Option Character) → character (b ∷ bs) ≡ d → well_step d (λ k. well_from k bs) ≡ true
       → ((k : ℕ) → k ≤ length bs → well_from k bs ≡ true → chars_from (at + 1) k (bs ++ t) ≡ chars_from (at + 1) k bs ++ chars_from (at + 1 + length bs) 0 t)
       → chars_step at (character (b ∷ (bs ++ t))) (λ k. chars_from (at + 1) k (bs ++ t)) ≡ chars_step at d (λ k. chars_from (at + 1) k bs) ++ chars_from (at + suc (length bs)) 0 t
-  go (Character v k) e w later =
-      let c : CharIndex = record { byte = at; value = v } in
-      rw (character-append b bs t v k e)
+  go (Some found) e w later =
+      let c : CharIndex = record { byte = at; value = found.value } in
+      rw (character-append b bs t found e)
       (ap (λ (l : List CharIndex). c ∷ l)
-      (later (k - 1) (rest-fits b bs t v k e) w ∙ ap (λ (n : ℕ). chars_from (at + 1) (k - 1) bs ++ chars_from n 0 t) (omega arith)))
-  go Refused e w later = absurd (true-not-false (sym w))
+      (later (found.size - 1) (rest-fits b bs t found e) w ∙ ap (λ (n : ℕ). chars_from (at + 1) (found.size - 1) bs ++ chars_from n 0 t) (omega arith)))
+  go None e w later = absurd (true-not-false (sym w))
 
 pub well-append : (skip : ℕ) (a t : List ℕ) → skip ≤ length a → well_from skip a ≡ true → well_from skip (a ++ t) ≡ well_from 0 t
 unfolding well_from
@@ -46,11 +46,11 @@ well-append zero [] t h w = refl
 well-append (suc skip) [] t h w = absurd (omega arith)
 well-append (suc skip) (b ∷ bs) t h w = well-append skip bs t (omega arith) w
 well-append zero (b ∷ bs) t h w = go (character (b ∷ bs)) refl w (λ k i j. well-append k bs t i j) where
-  go : (d : Decoded) → character (b ∷ bs) ≡ d → well_step d (λ k. well_from k bs) ≡ true
+  go : (d : Option Character) → character (b ∷ bs) ≡ d → well_step d (λ k. well_from k bs) ≡ true
       → ((k : ℕ) → k ≤ length bs → well_from k bs ≡ true → well_from k (bs ++ t) ≡ well_from 0 t)
       → well_step (character (b ∷ (bs ++ t))) (λ k. well_from k (bs ++ t)) ≡ well_from 0 t
-  go (Character v k) e w later = rw (character-append b bs t v k e) (later (k - 1) (rest-fits b bs t v k e) w)
-  go Refused e w later = absurd (true-not-false (sym w))
+  go (Some found) e w later = rw (character-append b bs t found e) (later (found.size - 1) (rest-fits b bs t found e) w)
+  go None e w later = absurd (true-not-false (sym w))
 
 -- ---- columns
 pub columns-append : (c : ℕ) (a b : List CharIndex) → columns_from c (a ++ b) ≡ columns_from c a + columns_from (c + columns_from c a) b
@@ -67,10 +67,10 @@ unfolding chars_from columns_from
 columns-anywhere c at from skip [] = refl
 columns-anywhere c at from (suc skip) (b ∷ bs) = columns-anywhere c (at + 1) (from + 1) skip bs
 columns-anywhere c at from zero (b ∷ bs) = go (character (b ∷ bs)) (λ c k. columns-anywhere c (at + 1) (from + 1) k bs) where
-  go : (d : Decoded) → ((c k : ℕ) → columns_from c (chars_from (at + 1) k bs) ≡ columns_from c (chars_from (from + 1) k bs))
+  go : (d : Option Character) → ((c k : ℕ) → columns_from c (chars_from (at + 1) k bs) ≡ columns_from c (chars_from (from + 1) k bs))
       → columns_from c (chars_step at d (λ k. chars_from (at + 1) k bs)) ≡ columns_from c (chars_step from d (λ k. chars_from (from + 1) k bs))
-  go (Character v k) later = ap (λ (n : ℕ). span c v + n) (later (c + span c v) (k - 1))
-  go Refused later = refl
+  go (Some found) later = ap (λ (n : ℕ). span c found.value + n) (later (c + span c found.value) (found.size - 1))
+  go None later = refl
 
 -- ---- bytes that take n columns from column c on
 pub record Spans (c : ℕ) (bs : List ℕ) (n : ℕ) : Type 0 where
@@ -102,7 +102,7 @@ pub single-space : Single space
 single-space = record { low = omega arith; high = omega arith }
 
 pub single-span : {b : ℕ} (c : ℕ) → Single b → span c b ≡ 1
-single-span {b} c s = span-other c b (λ e. omega (arith, s.low)) ∙ ap columns_of (ascii-one-column b s.low s.high)
+single-span {b} c s = span-other c b (λ e. omega (arith, s.low)) ∙ ap (λ (w : Option ℕ). unwrap_or w 0) (ascii-one-column b s.low s.high)
 
 pub spans-single : (c : ℕ) {b : ℕ} → Single b → Spans c (b ∷ []) 1
 unfolding well_from columns_from chars_from

@@ -42,9 +42,10 @@ trim-spaces s k = trim-blanks s (replicate k space) (spaces-blank k)
 
 -- A scan from the end, with all from n on found blank: it stops at a byte that is not, goes on, or has come to the start
 module _ (s : List ℕ) (n : ℕ) (scanned : trim_end s ≡ trim_end (take n s)) where
-  pub trim-stops : (t : Bool) → 0 < n → n ≤ length s → t ≡ blank (get_or s (n - 1) 0) → not t ≡ true → take n s ≡ trim_end s
+  pub trim-stops : (t : Bool) → 0 < n → n ≤ length s → t ≡ blank (get_or s (n - 1) 0) → not t ≡ true → take (n - 1 + 1) s ≡ trim_end s
   trim-stops t pos h e f =
-      rw (scanned, take_last s n pos h) (sym (trim-kept (take (n - 1) s) (get_or s (n - 1) 0) (sym e ∙ not-true t f)))
+      let same : n - 1 + 1 ≡ n = omega arith in
+      rw (same, scanned, take_last s n pos h) (sym (trim-kept (take (n - 1) s) (get_or s (n - 1) 0) (sym e ∙ not-true t f)))
 
   pub trim-goes-on : (t : Bool) → 0 < n → n ≤ length s → t ≡ blank (get_or s (n - 1) 0) → not t ≡ false → trim_end s ≡ trim_end (take (n - 1) s)
   trim-goes-on t pos h e f =

@@ -1,8 +1,6 @@
 -- Document 01, "Characters": the set, and the columns that each of its characters takes.
-use Rattle.std.specs.Prelude.{ℕ, ◌-◌, ◌%◌, Bool, true, false, ◌||◌, cond, eqb}
+use Rattle.std.specs.Prelude.{ℕ, ◌-◌, ◌%◌, Bool, ◌||◌, cond, eqb, Option, None, Some, is_some, unwrap_or}
 use Rattle.seq.specs.Lists.{within}
-use Rattle.text.specs.declared.Width.{Width}
-use Rattle.text.specs.declared.Width.TheVariants.{Columns, Outside}
 
 abbrev pub space : ℕ
 space = 0x20
@@ -28,27 +26,18 @@ takes_none c = within 0x300 0x36f c
 abbrev pub takes_two : ℕ → Bool
 takes_two c = within 0x3041 0x3096 c || (within 0x30a1 0x30fa c || (within 0x4e00 0x9fff c || (within 0xac00 0xd7a3 c || within 0xff01 0xff60 c)))
 
--- the stand-in for `width` of the unicode-width crate. A tab is not in it: its columns depend on where it stands
-unfoldable pub width_of : ℕ → Width
-width_of c = cond (takes_one c) (Columns 1) (cond (takes_none c) (Columns 0) (cond (takes_two c) (Columns 2) Outside))
+-- the stand-in for `width` of the unicode-width crate, none outside the set. A tab is not in it: its columns depend on where it stands
+unfoldable pub width_of : ℕ → Option ℕ
+width_of c = cond (takes_one c) (Some 1) (cond (takes_none c) (Some 0) (cond (takes_two c) (Some 2) None))
 
 -- "A tab takes 4 minus (column mod 4) columns."
 unfoldable pub tab_columns : ℕ → ℕ
 tab_columns column = 4 - column % 4
 
--- a width as a number, 0 for what is outside the set
-abbrev pub columns_of : Width → ℕ
-columns_of (Columns n) = n
-columns_of Outside = 0
-
-abbrev pub is_columns : Width → Bool
-is_columns (Columns n) = true
-is_columns Outside = false
-
 -- "Nothing else is in the set": a tab, or a character that the stand-in knows
 unfoldable pub in_set : ℕ → Bool
-in_set c = eqb c tab || is_columns (width_of c)
+in_set c = eqb c tab || is_some (width_of c)
 
--- the columns that a character takes where it stands
+-- the columns that a character takes where it stands, 0 outside the set
 unfoldable pub span : ℕ → ℕ → ℕ
-span column c = cond (eqb c tab) (tab_columns column) (columns_of (width_of c))
+span column c = cond (eqb c tab) (tab_columns column) (unwrap_or (width_of c) 0)

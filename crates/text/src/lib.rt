@@ -2,23 +2,16 @@
 #![tactic(auto)]
 
 // A place in a line, counted in bytes.
-#[derive(Clone, Copy)]
+#[derive(Clone, Copy, Debug, PartialEq, Eq)]
 pub struct ByteAt(pub usize);
 
 // A place on the screen, counted in columns.
-#[derive(Clone, Copy)]
+#[derive(Clone, Copy, Debug, PartialEq, Eq)]
 pub struct Column(pub usize);
 
-// How many columns a character takes: `width` of document 01's stand-in.
-#[derive(Clone, Copy)]
-pub enum Width {
-    Columns(usize),
-    Outside,
-}
-
-// The character at a place of a line with its size in bytes, or that none of the set stands there.
-#[derive(Clone, Copy)]
-pub enum Decoded {
-    Character { value: u32, size: usize },
-    Refused,
+// A character of a line, with its size in bytes.
+#[derive(Clone, Copy, Debug, PartialEq, Eq)]
+pub struct Character {
+    pub value: u32,
+    pub size: usize,
 }

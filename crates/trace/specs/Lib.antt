@@ -1,5 +1,5 @@
-pub mod Tracing
-pub mod Placing
-pub mod Search
 pub mod Skylines
-pub mod Count
+pub mod Ready
+pub mod Search
+pub mod Placing
+pub mod Tracing

@@ -6,12 +6,6 @@ use Rattle.trace.specs.declared.skyline.Skyline.{Skyline}
 abbrev pub sky_of : Skyline → List ℕ
 sky_of s = take s.used s.bottoms
 
--- a skyline of at least one column and at most 127
-pub record Sky (s : Skyline) : Type 0 where
-  pub room : length s.bottoms ≡ 127
-  pub some : 1 ≤ s.used
-  pub few : s.used ≤ 127
-
 -- the first column of these from `from` on that stands at this level, or their number
 pub record FirstFrom (sky : List ℕ) (from level at : ℕ) : Type 0 where
   pub low : from ≤ at

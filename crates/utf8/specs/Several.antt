@@ -1,17 +1,11 @@
 -- Whether a character of several bytes stands at a place.
-use Rattle.std.specs.Prelude.{ℕ, ◌≤◌, ◌<◌, ◌≡◌, Bool, true, false, List, drop, get_or}
-use Rattle.text.specs.declared.Decoded.{Decoded}
-use Rattle.text.specs.declared.Decoded.TheVariants.{Character, Refused}
-use Rattle.text.specs.Utf8.{character}
-
-abbrev pub is_character : Decoded → Bool
-is_character (Character value size) = true
-is_character Refused = false
+use Rattle.std.specs.Prelude.{ℕ, ◌≤◌, ◌<◌, ◌≡◌, Bool, true, false, List, drop, get_or, None, Some}
+use Rattle.text.specs.Utf8.{character_of, character}
 
 -- `size` bytes at a place are a character of the set, or none stands there
 pub record Whole (s : List ℕ) (at size : ℕ) (r : Bool) : Type 0 where
-  pub whole : r ≡ true → (v : ℕ) × (character (drop at s) ≡ Character v size)
-  pub none : r ≡ false → character (drop at s) ≡ Refused
+  pub whole : r ≡ true → (v : ℕ) × (character (drop at s) ≡ Some (character_of v size))
+  pub none : r ≡ false → character (drop at s) ≡ None
 
 -- a mark stands at a place: by its first byte it takes no column
 pub record MarkAt (s : List ℕ) (at : ℕ) : Type 0 where

@@ -6,6 +6,7 @@ ghost use Rattle.text.specs.Columns.{is_tab, byte_columns, added_columns};
 
 use text::Column;
 
+// By comparisons alone: a match on ranges tests both ends of each, for every byte of a line.
 fn byte_columns(b: u8) -> u16
     ensures { result ≡ byte_columns b }
 {
@@ -27,13 +28,10 @@ pub fn added_columns(line: &[u8]) -> Column
     ensures { (result.0 ≡ added_columns line.now) × (result.0 ≤ 4 * length line.now) }
 {
     let mut n: u16 = 0;
-    let mut i = 0;
-    while i < line.len() {
-        n += byte_columns(line[i]);
-        i += 1;
+    for b in line {
+        n += byte_columns(*b);
     }
-    let columns = n as usize;
-    Column(columns)
+    Column(usize::from(n))
 }
 
 // Is there a tab? No byte ends the loop, so that many are tested at a time.
@@ -41,10 +39,8 @@ pub fn has_tab(line: &[u8]) -> bool
     ensures { result ≡ any is_tab line.now }
 {
     let mut some = false;
-    let mut i = 0;
-    while i < line.len() {
-        some = some | (line[i] == 0x09);
-        i += 1;
+    for b in line {
+        some |= *b == 0x09;
     }
     some
 }

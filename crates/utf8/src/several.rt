@@ -1,19 +1,10 @@
 // Characters of several bytes at a place of a line.
 ghost use Rattle.std.specs.Prelude.{◌≤◌, ◌<◌, ◌≡◌, true, length, get_or};
-ghost use Rattle.utf8.specs.Several.{is_character, Whole, MarkAt};
+ghost use Rattle.utf8.specs.Several.{Whole, MarkAt};
 
 use crate::{byte_or_zero, from_three, from_two, is_continuation};
 use characters::within;
-use text::{ByteAt, Decoded};
-
-fn is_character(decoded: Decoded) -> bool
-    ensures { result ≡ is_character decoded }
-{
-    match decoded {
-        Decoded::Character { value: _, size: _ } => true,
-        Decoded::Refused => false,
-    }
-}
+use text::ByteAt;
 
 // Is the character at a place a mark, 300 to 36F? It is not put together: where the second byte goes on with a
 // character, 64 times the first byte and the second then add up to 3380 to 33EF.
@@ -47,7 +38,7 @@ pub fn is_two(line: &[u8], at: ByteAt) -> bool
     if a < 0xc0 {
         return false;
     }
-    is_character(from_two(a, b))
+    from_two(a, b).is_some()
 }
 
 // Is the character at a place, whose first byte is E0 or more, one of the set? 5000 to 9FFF are so
@@ -68,5 +59,5 @@ pub fn is_three(line: &[u8], at: ByteAt) -> bool
             return true;
         }
     }
-    is_character(from_three(a, b, c))
+    from_three(a, b, c).is_some()
 }

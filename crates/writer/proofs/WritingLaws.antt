@@ -2,11 +2,11 @@
 use Prim.Native.Nat.{ℕ, zero, suc, ◌+◌, ◌-◌, ◌≤◌, ◌<◌, min}
 use mathlib.Core.Path.{◌≡◌, refl, sym, ap, ap₂, subst, ◌∙◌}
 use mathlib.Core.Logic.{⊎_elim}
-use mathlib.Core.List.{List, [], ◌∷◌, ◌++◌, append-nil, flat_map}
+use mathlib.Core.List.{List, [], ◌∷◌, ◌++◌, append-nil, append_assoc, flat_map}
 use native.Mathlib.Numerals.{add-one}
 use native.Mathlib.Omega.{arith}
-use lib.ListN.{length, get_or, take, drop, set, replicate, length-replicate, get_or-replicate, length-append, take-append-drop}
-use lib.Seq.{take-suc, take_all, length-take-le}
+use lib.ListN.{length, get_or, take, drop, set, replicate, length-replicate, length-append, length-drop, take-append-drop}
+use lib.Seq.{take-suc, take_all, length-take-le, drop-drop}
 use Rattle.seq.proofs.Tests.{le-or-lt}
 use Rattle.seq.proofs.FlatMaps.{flat_map-append}
 use Rattle.grid.specs.Answer.{over}
@@ -104,39 +104,45 @@ put-counted d at b h = record { bytes = sym (put_down-past d at (b ∷ []) h); n
 put_down-rest : (d : List ℕ) (at : ℕ) (s t : List ℕ) → length d ≤ at + length s → put_down d at (s ++ t) ≡ put_down d at s
 put_down-rest d at s t h = sym (put_down-then d at s t) ∙ put_down-past (put_down d at s) (at + length s) t (omega (arith, put_down-length d at s))
 
--- ---- several bytes: the first i of them
-pub written_none : (d : List ℕ) (at : ℕ) (s : List ℕ) → Wrote d at (take 0 s) d (at + 0)
-written_none d at s = record { bytes = sym (put_down-none d at); next = refl }
+-- ---- several bytes: as many as fit, from `at` on or at the buffer's end
+module _ (d s : List ℕ) (at start count : ℕ) (begins : start ≡ min at (length d)) (fit : count ≡ min (length s) (length d - start)) where
+  long : length (take count s) ≡ count
+  long = length-take-le count s (omega arith)
 
-module _ {d e : List ℕ} (s : List ℕ) (at : ℕ) where
-  pub written_next : (i end : ℕ) → i < end → end ≡ min (length s) (length d - at) → Wrote d at (take i s) e (at + i)
-      → Wrote d at (take (i + 1) s) (set e (at + i) (get_or s i 0)) (at + (i + 1))
-  written_next i end h k p =
-      let same : length e ≡ length d = ap length p.bytes ∙ put_down-length d at (take i s) in
-      let next : at + (i + 1) ≡ at + i + 1 = omega arith in
-      let more : take (i + 1) s ≡ take i s ++ get_or s i 0 ∷ [] = rw add-one (take-suc s i 0 (omega arith)) in
-      rw (next, more) (wrote_then p (put_written e (at + i) (get_or s i 0) (omega arith)))
+  same : put_down d at s ≡ put_down d start (take count s)
+  same = ⊎_elim past inside (le-or-lt (length d) at) where
+    past : length d ≤ at → put_down d at s ≡ put_down d start (take count s)
+    past h = put_down-past d at s h ∙ sym (put_down-past d start (take count s) (omega arith))
 
-  pub written_all : (i end : ℕ) → i ≤ end → end ≤ i → end ≡ min (length s) (length d - at) → Wrote d at (take i s) e (at + i) → Wrote d at s e (at + length s)
-  written_all i end h k f p = ⊎_elim all rest (le-or-lt (length s) i) where
-    all : length s ≤ i → Wrote d at s e (at + length s)
-    all u = record { bytes = p.bytes ∙ ap (put_down d at) (take_all i s u); next = refl }
+    all : at < length d → length s ≤ count → put_down d at s ≡ put_down d at (take count s)
+    all h u = ap (put_down d at) (sym (take_all count s u))
 
-    rest : i < length s → Wrote d at s e (at + length s)
-    rest u =
-        let few : length d ≤ at + length (take i s) = omega (arith, length-take-le i s (omega arith)) in
-        record { bytes = p.bytes ∙ sym (put_down-rest d at (take i s) (drop i s) few) ∙ ap (put_down d at) (take-append-drop i s); next = refl }
+    rest : at < length d → count < length s → put_down d at s ≡ put_down d at (take count s)
+    rest h u =
+        ap (put_down d at) (sym (take-append-drop count s)) ∙ put_down-rest d at (take count s) (drop count s) (omega (arith, long))
 
--- ---- the same byte so many times
-module _ {d e : List ℕ} (b count at : ℕ) where
-  pub filled_next : (i end : ℕ) → i < end → end ≡ min count (length d - at) → Wrote d at (take i (replicate count b)) e (at + i)
-      → Wrote d at (take (i + 1) (replicate count b)) (set e (at + i) b) (at + (i + 1))
-  filled_next i end h k p =
-      let same = length-replicate count b in
-      rw (get_or-replicate count i b 0 (omega arith)) at (written_next (replicate count b) at i end h (rw same k) p)
+    inside : at < length d → put_down d at s ≡ put_down d start (take count s)
+    inside h = let e : start ≡ at = omega arith in rw e (⊎_elim (all h) (rest h) (le-or-lt (length s) count))
 
-  pub filled-all : (i end : ℕ) → i ≤ end → end ≤ i → end ≡ min count (length d - at) → Wrote d at (take i (replicate count b)) e (at + i)
-      → Wrote d at (replicate count b) e (at + count)
-  filled-all i end h k f p =
-      let same = length-replicate count b in
-      rw same at (written_all (replicate count b) at i end h k (rw same f) p)
+  pub wrote_part : (part : List ℕ) → part ≡ take count s → Wrote d at s (take start d ++ (part ++ drop (start + count - start) (drop start d))) (at + length s)
+  wrote_part part is =
+      let middle : start + count - start ≡ count = omega arith in
+      let fits : start + length (take count s) ≤ length d = omega (arith, long) in
+      let laid : put_down d at s ≡ take start d ++ (take count s ++ drop (start + count) d) =
+      rw long at (same ∙ put_down-fits d start (take count s) fits ∙ append_assoc (take start d) (take count s) (drop (start + length (take count s)) d))
+      in
+      record { bytes = rw (is, middle, drop-drop count start d) (sym laid); next = refl }
+
+take-replicate : (k n b : ℕ) → k ≤ n → replicate k b ≡ take k (replicate n b)
+take-replicate zero n b h = refl
+take-replicate (suc k) zero b h = absurd (omega arith)
+take-replicate (suc k) (suc n) b h = ap (λ (l : List ℕ). b ∷ l) (take-replicate k n b (omega arith))
+
+module _ (d : List ℕ) (at start count b n : ℕ) (begins : start ≡ min at (length d)) (fit : n ≡ min count (length d - start)) where
+  pub filled-part : (part : List ℕ) → part ≡ replicate (length (take (start + n - start) (drop start d))) b
+      → Wrote d at (replicate count b) (take start d ++ (part ++ drop (start + n - start) (drop start d))) (at + count)
+  filled-part part is =
+      let middle : start + n - start ≡ n = omega arith in
+      let ready : length (take n (drop start d)) ≡ n = length-take-le n (drop start d) (omega (arith, length-drop start d)) in
+      let whole = length-replicate count b in
+      rw whole at (wrote_part d (replicate count b) at start n begins (rw whole fit) part (rw (middle, ready) at is ∙ take-replicate n count b (omega arith)))

@@ -11,16 +11,14 @@ pub fn digits(number: usize, digits: &mut [u8]) -> usize
     ensures { (length digits.new ≡ 20) × (result ≤ 20) × (drop result digits.new ≡ decimal number) }
 {
     let mut left = number;
-    let mut i = 20;
-    while 0 < i {
-        i -= 1;
+    for i in (0..20).rev() {
         digits[i] = b'0' + (left % 10) as u8;
         if left < 10 {
             return i;
         }
-        left = left / 10;
+        left /= 10;
     }
-    i
+    0
 }
 
 pub fn decimal(number: usize, out: &mut [u8], at: usize) -> usize

@@ -4,7 +4,7 @@
 
 pub mod decimals;
 
-ghost use Rattle.std.specs.Prelude.{◌+◌, ◌-◌, ◌≤◌, min, ◌≡◌, [], ◌∷◌, length, replicate};
+ghost use Rattle.std.specs.Prelude.{◌+◌, ◌≤◌, ◌≡◌, [], ◌∷◌, length, replicate};
 ghost use Rattle.writer.specs.Writing.{Wrote};
 
 pub fn put(b: u8, out: &mut [u8], at: usize) -> usize
@@ -18,27 +18,13 @@ pub fn put(b: u8, out: &mut [u8], at: usize) -> usize
     at + 1
 }
 
-// How many of `count` bytes fit from `at` on.
-fn fitting(count: usize, at: usize, space: usize) -> usize
-    ensures { result ≡ min count (space - at) }
-{
-    if space <= at {
-        return 0;
-    }
-    let room = space - at;
-    if count < room { count } else { room }
-}
-
 pub fn copy(bytes: &[u8], out: &mut [u8], at: usize) -> usize
     requires { at + length bytes.now ≤ 18446744073709551615 }
     ensures { Wrote out.old at bytes.now out.new result }
 {
-    let end = fitting(bytes.len(), at, out.len());
-    let mut i = 0;
-    while i < end {
-        out[at + i] = bytes[i];
-        i += 1;
-    }
+    let start = at.min(out.len());
+    let count = bytes.len().min(out.len() - start);
+    out[start..start + count].copy_from_slice(&bytes[..count]);
     at + bytes.len()
 }
 
@@ -47,11 +33,8 @@ pub fn fill(b: u8, count: usize, out: &mut [u8], at: usize) -> usize
     requires { (at ≤ 4294967296) × (count ≤ 65536) }
     ensures { Wrote out.old at (replicate count b) out.new result }
 {
-    let end = fitting(count, at, out.len());
-    let mut i = 0;
-    while i < end {
-        out[at + i] = b;
-        i += 1;
-    }
+    let start = at.min(out.len());
+    let end = start + count.min(out.len() - start);
+    out[start..end].fill(b);
     at + count
 }

@@ -1,10 +1,6 @@
 -- `alignment::corners_on` meets its contract. The invariant: the corners of the first k cells are marked.
-use Prim.Native.Nat.{◌-◌, ◌≤◌}
 use Rattle.alignment.proofs.CornerLaws.{Marking}
 use Rattle.alignment.proofs.corners_on.Given as goal
 
 abbrev pub invariant-loop-k : goal.invariant-loop-k
-invariant-loop-k l = (l.k ≤ l.n) × Marking l.cells l.n l.line l.marks l.k
-
-abbrev pub decreases-loop-k : goal.decreases-loop-k
-decreases-loop-k l = l.n - l.k
+invariant-loop-k l = Marking l.cells l.n l.line l.marks l.k

@@ -1,122 +1,117 @@
--- The borders along the lines of a cell, up to a column.
-use Prim.Native.Nat.{ℕ, ◌+◌, ◌*◌, ◌≤◌, ◌<◌}
+-- The borders along the lines of a cell.
+use Prim.Native.Nat.{ℕ, ◌+◌, ◌*◌, ◌-◌, ◌≤◌, ◌<◌}
 use mathlib.Core.Path.{◌≡◌, refl, sym, ap, ◌∙◌}
 use mathlib.Core.Bool.{Bool, true, false, ◌&&◌, ◌||◌, cond}
+use mathlib.Core.Logic.{⊎_elim}
 use mathlib.Core.List.{List}
 use native.Mathlib.Omega.{arith}
-use lib.Dec.{eqb}
-use lib.ListN.{length, get_or, set, length-set}
-use borrow.Author.Tests.{eqb-true}
-use Rattle.seq.proofs.Tests.{and-false, or_right}
-use Rattle.grid.specs.Values.{Rect}
+use lib.Dec.{eqb, ltb}
+use lib.ListN.{length, get_or, take, drop, replicate, length-append, length-drop, length-take, length-replicate}
+use lib.Seq.{length-take-le}
+use borrow.Author.Tests.{eqb-true, eqb-false, ltb-true, ltb-false}
+use borrow.Rule.Slice.PartMut.{put_mid}
+use Rattle.std.proofs.lemmas.List.{places}
+use Rattle.std.proofs.Common.{rules}
+use Rattle.seq.proofs.Tests.{and-false, or_right, le-or-lt}
 use Rattle.grid.specs.LayoutCall.{slot_space}
 use Rattle.drawing.specs.Plain.{is_inside}
-use Rattle.representation.specs.Arrays.{code_at, rect_in}
+use Rattle.representation.specs.Arrays.{code_at}
 use Rattle.representation.specs.LayoutEntries.{Inside}
+use Rattle.representation.specs.Lent.{rect_of}
+use Rattle.representation.specs.declared.rect.Rect.{Rect}
 use Rattle.canvas.specs.declared.Rules.{Rules}
 use Rattle.canvas.specs.Painting.{Drawn, rule_byte, ended}
-use Rattle.canvas.proofs.SlotLaws.{code-set, set_room, inside-next, inside-not, inside-same, inside-empty}
 
-and-true : (t : Bool) → t && true ≡ t
-and-true true = refl
-and-true false = refl
+-- ---- a part that is filled
+module _ (xs ys : List ℕ) (a k w : ℕ) (filled : ys ≡ replicate (length (take k (drop a xs))) w) (room : a + k ≤ length xs) where
+  written : ys ≡ replicate k w
+  written = let e : k ≤ length (drop a xs) = omega (arith, length-drop a xs) in rw (length-take-le k (drop a xs) e) at filled
 
--- the borders along the first and the last line, with their bytes
-abbrev two_ends : ℕ → ℕ → Rect → ℕ → ℕ → ℕ → ℕ
-two_ends above below r y x old = cond (is_inside r.left r.right x) (cond (eqb y r.bottom) below (cond (eqb y r.top) above old)) old
+  abbrev after : List ℕ
+  after = put_mid a k xs ys
 
--- a cell up to column x, and its borders drawn so far
-abbrev up_to_column : Rect → ℕ → Rect
-up_to_column r x = record { top = r.top; left = r.left; bottom = r.bottom; right = x }
+  kept-below : (n : ℕ) → n < a → get_or after n 0 ≡ get_or xs n 0
+  kept-below n h = search (rules, places)
 
-pub record EndsSoFar (rects : List ℕ) (k top bottom right above below : ℕ) (canvas₀ canvas : List ℕ) (x : ℕ) : Type 0 where
-  pub top_is : top ≡ get_or rects (4 * k) 0
-  pub bottom_is : bottom ≡ get_or rects (4 * k + 2) 0
-  pub right_is : right ≡ get_or rects (4 * k + 3) 0
-  pub behind : get_or rects (4 * k + 1) 0 < x
-  pub within : x ≤ right
-  pub kept : length canvas ≡ length canvas₀
-  pub drawn : Drawn (two_ends above below (up_to_column (rect_in rects k) x)) canvas₀ canvas
+  put_within : (n : ℕ) → a ≤ n → n < a + k → get_or after n 0 ≡ w
+  put_within n h u = rw written (let e : n - a < k = omega arith in search (rules, places))
 
-pub ends-start : (rects : List ℕ) (k above below : ℕ) (canvas : List ℕ) → Inside 128 128 (rect_in rects k)
-    → EndsSoFar rects k (get_or rects (4 * k) 0) (get_or rects (4 * k + 2) 0) (get_or rects (4 * k + 3) 0) above below canvas canvas (get_or rects (4 * k + 1) 0 + 1)
-ends-start rects k above below canvas r =
-    record {
-      top_is = refl;
-      bottom_is = refl;
-      right_is = refl;
-      behind = omega arith;
-      within = omega (arith, r.across);
-      kept = refl;
-      drawn = record { slot = λ j i hj hi. rw (inside-empty (get_or rects (4 * k + 1) 0) i) };
-    }
+  kept-above : (n : ℕ) → a + k ≤ n → get_or after n 0 ≡ get_or xs n 0
+  kept-above n h = rw written (search (rules, places))
 
-module _ (rects : List ℕ) (k top bottom right above below : ℕ) (canvas₀ canvas : List ℕ) (x : ℕ)
-    (s : EndsSoFar rects k top bottom right above below canvas₀ canvas x) (r : Inside 128 128 (rect_in rects k)) where
+-- one line between two columns
+abbrev inner_from : ℕ → ℕ → ℕ
+inner_from y left = y * 128 + (left + 1)
+
+abbrev inner_count : ℕ → ℕ → ℕ → ℕ
+inner_count y left right = y * 128 + right - inner_from y left
+
+-- its slots before they are filled, and the canvas with others in their place
+abbrev inner_slots : List ℕ → ℕ → ℕ → ℕ → List ℕ
+inner_slots xs y left right = take (inner_count y left right) (drop (inner_from y left) xs)
+
+abbrev with_inner : List ℕ → ℕ → ℕ → ℕ → List ℕ → List ℕ
+with_inner xs y left right ys = put_mid (inner_from y left) (inner_count y left right) xs ys
+
+module _ (xs ys : List ℕ) (y left right w : ℕ) (space : slot_space ≤ length xs) (low : y < 128) (across : left < right) (near : right < 128)
+    (filled : ys ≡ replicate (length (inner_slots xs y left right)) w) where
+  abbrev from : ℕ
+  from = inner_from y left
+
+  abbrev count : ℕ
+  count = inner_count y left right
+
+  room : from + count ≤ length xs
+  room = omega arith
+
+  line-filled : (j i : ℕ) → j < 128 → i < 128 → code_at (with_inner xs y left right ys) j i ≡ cond (eqb j y && is_inside left right i) w (code_at xs j i)
+  line-filled j i hj hi = go (eqb j y) (ltb left i) (ltb i right) refl refl refl where
+    go : (a b c : Bool) → eqb j y ≡ a → ltb left i ≡ b → ltb i right ≡ c → code_at (with_inner xs y left right ys) j i ≡ cond (a && (b && c)) w (code_at xs j i)
+    go true true true e f g =
+        let q = eqb-true j y e in
+        let l = ltb-true left i f in
+        let r = ltb-true i right g in put_within xs ys from count w filled room (j * 128 + i) (omega arith) (omega arith)
+    go true true false e f g =
+        let q = eqb-true j y e in
+        let r = ltb-false i right g in kept-above xs ys from count w filled room (j * 128 + i) (omega arith)
+    go true false c e f g =
+        let q = eqb-true j y e in
+        let l = ltb-false left i f in kept-below xs ys from count w filled room (j * 128 + i) (omega arith)
+    go false b c e f g = ⊎_elim
+        (λ (h : y ≤ j). let ne = eqb-false j y e in kept-above xs ys from count w filled room (j * 128 + i) (omega arith))
+        (λ (h : j < y). kept-below xs ys from count w filled room (j * 128 + i) (omega arith))
+        (le-or-lt y j)
+
+  line-kept : slot_space ≤ length (with_inner xs y left right ys)
+  line-kept = let e = length-replicate count w in let f = written xs ys from count w filled room in simp (length-append, length-take, length-drop) (omega (arith, ap length f))
+
+-- ---- both lines of a cell
+module _ (rect : Rect) (rules : Rules) (canvas first second : List ℕ) (above below : ℕ) (space : slot_space ≤ length canvas) (r : Inside 128 128 (rect_of rect)) where
+  abbrev one : List ℕ
+  one = with_inner canvas rect.top rect.left.0 rect.right.0 first
+
   -- both bytes are those of their lines
-  end-slot : (rules : Rules) → above ≡ rule_byte rules top → below ≡ rule_byte rules bottom → (t : Bool) (j old : ℕ)
-      → cond t (cond (eqb j bottom) below (cond (eqb j top) above old)) old ≡ cond ((eqb j top || eqb j bottom) && t) (rule_byte rules j) old
-  end-slot rules e f t j old = go (eqb j top) (eqb j bottom) t refl refl where
-    go : (a b t : Bool) → eqb j top ≡ a → eqb j bottom ≡ b → cond t (cond b below (cond a above old)) old ≡ cond ((a || b) && t) (rule_byte rules j) old
-    go a true true p q = f ∙ ap (rule_byte rules) (sym (eqb-true j bottom q)) ∙ rw (or_right a {u = true} refl)
-    go true false true p q = e ∙ ap (rule_byte rules) (sym (eqb-true j top p))
+  end-slot : above ≡ rule_byte rules rect.top → below ≡ rule_byte rules rect.bottom → (t : Bool) (j old : ℕ)
+      → cond (eqb j rect.bottom && t) below (cond (eqb j rect.top && t) above old) ≡ cond ((eqb j rect.top || eqb j rect.bottom) && t) (rule_byte rules j) old
+  end-slot e f t j old = go (eqb j rect.top) (eqb j rect.bottom) t refl refl where
+    go : (a b t : Bool) → eqb j rect.top ≡ a → eqb j rect.bottom ≡ b → cond (b && t) below (cond (a && t) above old) ≡ cond ((a || b) && t) (rule_byte rules j) old
+    go a true true p q = f ∙ ap (rule_byte rules) (sym (eqb-true j rect.bottom q)) ∙ rw (or_right a {u = true} refl)
+    go true false true p q = e ∙ ap (rule_byte rules) (sym (eqb-true j rect.top p))
     go false false true p q = refl
-    go a b false p q = rw (and-false (a || b))
+    go a b false p q = rw (and-false (a || b), and-false a, and-false b)
 
-  pub ends-end : (rules : Rules) → above ≡ rule_byte rules top → below ≡ rule_byte rules bottom → right ≤ x → Drawn (ended rules (rect_in rects k)) canvas₀ canvas
+  pub ends-drawn : above ≡ rule_byte rules rect.top → below ≡ rule_byte rules rect.bottom
+      → first ≡ replicate (length (inner_slots canvas rect.top rect.left.0 rect.right.0)) above
+      → second ≡ replicate (length (inner_slots one rect.bottom rect.left.0 rect.right.0)) below
+      → Drawn (ended rules (rect_of rect)) canvas (with_inner one rect.bottom rect.left.0 rect.right.0 second)
   unfolding ended
-  ends-end rules e f h =
-      let q : x ≡ get_or rects (4 * k + 3) 0 = omega (arith, s.within, s.right_is) in
+  ends-drawn e f upper lower =
+      let low : rect.top < 128 = omega (arith, r.down, r.tall) in
+      let kept = line-kept canvas first rect.top rect.left.0 rect.right.0 above space low r.across r.wide upper in
       record {
-        slot = λ j i hj hi. s.drawn.slot j i hj hi
-            ∙ rw (q, ← s.top_is, ← s.bottom_is)
-            (end-slot rules e f (is_inside (get_or rects (4 * k + 1) 0) (get_or rects (4 * k + 3) 0) i) j (code_at canvas₀ j i));
+        slot = λ j i hj hi.
+            line-filled one second rect.bottom rect.left.0 rect.right.0 below kept r.tall r.across r.wide lower j i hj hi
+            ∙ ap (cond (eqb j rect.bottom && is_inside rect.left.0 rect.right.0 i) below)
+            (line-filled canvas first rect.top rect.left.0 rect.right.0 above space low r.across r.wide upper j i hj hi)
+            ∙ end-slot e f (is_inside rect.left.0 rect.right.0 i) j (code_at canvas j i);
       }
-
-  module _ (room : slot_space ≤ length canvas₀) (h : x < right) where
-    abbrev left : ℕ
-    left = get_or rects (4 * k + 1) 0
-
-    roomy : slot_space ≤ length canvas
-    roomy = omega (arith, s.kept)
-
-    near : x < 128
-    near = omega (arith, s.right_is, r.wide)
-
-    low : (top < 128) × (bottom < 128)
-    low = (omega (arith, s.top_is, r.down, r.tall), omega (arith, s.bottom_is, r.tall))
-
-    abbrev one : List ℕ
-    one = set canvas (top * 128 + x) above
-
-    abbrev two : List ℕ
-    two = set one (bottom * 128 + x) below
-
-    slot_next : (j i : ℕ) → i < 128 → code_at two j i ≡ cond (eqb j bottom && eqb i x) below (cond (eqb j top && eqb i x) above (code_at canvas j i))
-    slot_next j i hi =
-        code-set one (bottom * 128 + x) bottom x below j i (set_room canvas (top * 128 + x) above roomy) refl low.1 near hi
-        ∙ ap (cond (eqb j bottom && eqb i x) below) (code-set canvas (top * 128 + x) top x above j i roomy refl low.0 near hi)
-
-    ends-drawn : (j i : ℕ) → j < 128 → i < 128 → code_at two j i ≡ two_ends above below (up_to_column (rect_in rects k) (x + 1)) j i (code_at canvas₀ j i)
-    ends-drawn j i hj hi = slot_next j i hi ∙ go (eqb i x) refl where
-      go : (t : Bool) → eqb i x ≡ t → cond (eqb j bottom && t) below (cond (eqb j top && t) above (code_at canvas j i))
-          ≡ two_ends above below (up_to_column (rect_in rects k) (x + 1)) j i (code_at canvas₀ j i)
-      go true e =
-          let q : i ≡ x = eqb-true i x e in
-          let now : is_inside left (x + 1) i ≡ true = rw q (inside-next left x s.behind) in
-          let before : is_inside left x i ≡ false = rw q (inside-not left x) in
-          let old : code_at canvas j i ≡ code_at canvas₀ j i = s.drawn.slot j i hj hi ∙ rw before in
-          rw (now, old, ← s.top_is, ← s.bottom_is, and-true (eqb j bottom), and-true (eqb j top))
-      go false e = rw (and-false (eqb j bottom), and-false (eqb j top)) (s.drawn.slot j i hj hi ∙ rw (inside-same left x i e))
-
-    pub ends_next : EndsSoFar rects k top bottom right above below canvas₀ two (x + 1)
-    ends_next =
-        record {
-          top_is = s.top_is;
-          bottom_is = s.bottom_is;
-          right_is = s.right_is;
-          behind = omega (arith, s.behind);
-          within = omega arith;
-          kept = simp length-set s.kept;
-          drawn = record { slot = ends-drawn };
-        }

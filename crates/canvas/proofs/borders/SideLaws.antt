@@ -5,14 +5,16 @@ use mathlib.Core.Bool.{Bool, true, false, ◌&&◌, cond}
 use mathlib.Core.List.{List}
 use native.Mathlib.Omega.{arith}
 use lib.Dec.{eqb}
-use lib.ListN.{length, get_or, set, length-set}
+use lib.ListN.{length, set, length-set}
 use borrow.Author.Tests.{eqb-true}
 use Rattle.grid.specs.Values.{Rect}
 use Rattle.grid.specs.Slots.{pipe}
 use Rattle.grid.specs.LayoutCall.{slot_space}
 use Rattle.drawing.specs.Plain.{is_inside}
-use Rattle.representation.specs.Arrays.{code_at, rect_in}
+use Rattle.representation.specs.Arrays.{code_at}
 use Rattle.representation.specs.LayoutEntries.{Inside}
+use Rattle.representation.specs.Lent.{rect_of}
+use Rattle.representation.specs.declared.rect.Rect.{Rect as Held}
 use Rattle.canvas.specs.Painting.{Drawn, sided}
 use Rattle.canvas.proofs.SlotLaws.{code-set, set_room, put-twice, inside-next, inside-not, inside-same, inside-empty}
 
@@ -20,49 +22,36 @@ use Rattle.canvas.proofs.SlotLaws.{code-set, set_room, put-twice, inside-next, i
 abbrev down_to : Rect → ℕ → Rect
 down_to r y = record { top = r.top; left = r.left; bottom = y; right = r.right }
 
-pub record SidesSoFar (rects : List ℕ) (k left bottom right number : ℕ) (canvas₀ canvas : List ℕ) (y : ℕ) : Type 0 where
-  pub left_is : left ≡ get_or rects (4 * k + 1) 0
-  pub bottom_is : bottom ≡ get_or rects (4 * k + 2) 0
-  pub right_is : right ≡ get_or rects (4 * k + 3) 0
-  pub number_is : number ≡ 256 + k
-  pub under : get_or rects (4 * k) 0 < y
-  pub within : y ≤ bottom
+pub record SidesSoFar (rect : Held) (number : ℕ) (canvas₀ canvas : List ℕ) (y : ℕ) : Type 0 where
+  pub under : rect.top < y
   pub kept : length canvas ≡ length canvas₀
-  pub drawn : Drawn (sided (256 + k) (down_to (rect_in rects k) y)) canvas₀ canvas
+  pub drawn : Drawn (sided number (down_to (rect_of rect) y)) canvas₀ canvas
 
-pub sides-start : (rects : List ℕ) (k : ℕ) (canvas : List ℕ) → Inside 128 128 (rect_in rects k)
-    → SidesSoFar rects k (get_or rects (4 * k + 1) 0) (get_or rects (4 * k + 2) 0) (get_or rects (4 * k + 3) 0) (256 + k) canvas canvas (get_or rects (4 * k) 0 + 1)
+pub sides-start : (rect : Held) (number : ℕ) (canvas : List ℕ) → SidesSoFar rect number canvas canvas (rect.top + 1)
 unfolding sided
-sides-start rects k canvas r =
-    record {
-      left_is = refl;
-      bottom_is = refl;
-      right_is = refl;
-      number_is = refl;
-      under = omega arith;
-      within = omega (arith, r.down);
-      kept = refl;
-      drawn = record { slot = λ j i hj hi. rw (inside-empty (get_or rects (4 * k) 0) j) };
-    }
+sides-start rect number canvas =
+    record { under = omega arith; kept = refl; drawn = record { slot = λ j i hj hi. rw (inside-empty rect.top j) } }
 
-module _ (rects : List ℕ) (k left bottom right number : ℕ) (canvas₀ canvas : List ℕ) (y : ℕ)
-    (s : SidesSoFar rects k left bottom right number canvas₀ canvas y) (r : Inside 128 128 (rect_in rects k)) where
-  pub sides-end : bottom ≤ y → Drawn (sided (256 + k) (rect_in rects k)) canvas₀ canvas
-  unfolding sided
-  sides-end h = let e : y ≡ get_or rects (4 * k + 2) 0 = omega (arith, s.within, s.bottom_is) in rw e at s.drawn
+module _ (rect : Held) (number : ℕ) (canvas₀ canvas : List ℕ) (y : ℕ)
+    (s : SidesSoFar rect number canvas₀ canvas y) (r : Inside 128 128 (rect_of rect)) where
+  pub sides-end : y ≡ rect.bottom → Drawn (sided number (rect_of rect)) canvas₀ canvas
+  sides-end e = rw e at s.drawn
 
-  module _ (room : slot_space ≤ length canvas₀) (h : y < bottom) where
-    abbrev top : ℕ
-    top = get_or rects (4 * k) 0
+  module _ (room : slot_space ≤ length canvas₀) (h : y < rect.bottom) where
+    abbrev left : ℕ
+    left = rect.left.0
+
+    abbrev right : ℕ
+    right = rect.right.0
 
     roomy : slot_space ≤ length canvas
     roomy = omega (arith, s.kept)
 
     low : y < 128
-    low = omega (arith, s.bottom_is, r.tall)
+    low = omega (arith, r.tall)
 
     near : (left + 1 < 128) × (right < 128)
-    near = (omega (arith, s.left_is, r.across, r.wide), omega (arith, s.right_is, r.wide))
+    near = (omega (arith, r.across, r.wide), r.wide)
 
     abbrev one : List ℕ
     one = set canvas (y * 128 + left + 1) number
@@ -85,28 +74,18 @@ module _ (rects : List ℕ) (k left bottom right number : ℕ) (canvas₀ canvas
         (code-set one (y * 128 + left) y left pipe j i space refl low (omega (arith, near)) hi
         ∙ ap (cond (eqb j y && eqb i left) pipe) (code-set canvas (y * 128 + left + 1) y (left + 1) number j i roomy (omega arith) low near.0 hi))
 
-    sides-drawn : (j i : ℕ) → j < 128 → i < 128 → code_at three j i ≡ sided (256 + k) (down_to (rect_in rects k) (y + 1)) j i (code_at canvas₀ j i)
+    sides-drawn : (j i : ℕ) → j < 128 → i < 128 → code_at three j i ≡ sided number (down_to (rect_of rect) (y + 1)) j i (code_at canvas₀ j i)
     unfolding sided
     sides-drawn j i hj hi = slot_next j i hi ∙ go (eqb j y) refl where
-      go : (t : Bool) → eqb j y ≡ t → on_line t i (code_at canvas j i) ≡ sided (256 + k) (down_to (rect_in rects k) (y + 1)) j i (code_at canvas₀ j i)
+      go : (t : Bool) → eqb j y ≡ t → on_line t i (code_at canvas j i) ≡ sided number (down_to (rect_of rect) (y + 1)) j i (code_at canvas₀ j i)
       go true e =
           let q : j ≡ y = eqb-true j y e in
-          let now : is_inside top (y + 1) j ≡ true = rw q (inside-next top y s.under) in
-          let before : is_inside top y j ≡ false = rw q (inside-not top y) in
+          let now : is_inside rect.top (y + 1) j ≡ true = rw q (inside-next rect.top y s.under) in
+          let before : is_inside rect.top y j ≡ false = rw q (inside-not rect.top y) in
           let old : code_at canvas j i ≡ code_at canvas₀ j i = s.drawn.slot j i hj hi ∙ rw before in
-          rw (now, old, ← s.left_is, ← s.right_is, ← s.number_is)
+          rw (now, old)
           (put-twice (eqb i left) (eqb i right) pipe (cond (eqb i (left + 1)) number (code_at canvas₀ j i)))
-      go false e = s.drawn.slot j i hj hi ∙ rw (inside-same top y j e)
+      go false e = s.drawn.slot j i hj hi ∙ rw (inside-same rect.top y j e)
 
-    pub sides-next : SidesSoFar rects k left bottom right number canvas₀ three (y + 1)
-    sides-next =
-        record {
-          left_is = s.left_is;
-          bottom_is = s.bottom_is;
-          right_is = s.right_is;
-          number_is = s.number_is;
-          under = omega (arith, s.under);
-          within = omega arith;
-          kept = simp length-set s.kept;
-          drawn = record { slot = sides-drawn };
-        }
+    pub sides-next : SidesSoFar rect number canvas₀ three (y + 1)
+    sides-next = record { under = omega (arith, s.under); kept = simp length-set s.kept; drawn = record { slot = sides-drawn } }

@@ -8,39 +8,16 @@ use native.Mathlib.Omega.{arith}
 use native.Mathlib.Nat.{eq-or-lt_of_le}
 use lib.Dec.{eqb}
 use lib.ListN.{length, get_or, set}
-use borrow.Author.Tests.{eqb-true, eq-eqb, ne_eqb}
+use borrow.Author.Tests.{eq-eqb, ne_eqb}
 use Rattle.seq.specs.Lists.{range, any, find}
 use Rattle.seq.proofs.Tests.{and-false}
 use Rattle.text.specs.Characters.{colon}
 use Rattle.grid.specs.LayoutCall.{slot_space}
 use Rattle.grid.specs.Flat.{code_alignment}
-use Rattle.grid.specs.declared.TableAlignment.TheVariants.{None, Left, Right, Center}
 use Rattle.drawing.specs.Plain.{has_left_colon, has_right_colon}
 use Rattle.representation.specs.Arrays.{code_at}
 use Rattle.canvas.specs.Painting.{Drawn, colon_if, colon_of, coloned, next_mark, colon_in, all_coloned}
 use Rattle.canvas.proofs.SlotLaws.{code-set, put-twice}
-
--- ---- alignments as numbers
-pub left-code : (code : ℕ) → eqb code 1 || eqb code 3 ≡ has_left_colon (code_alignment code)
-left-code code = go (eqb code 1) (eqb code 2) refl where
-  go : (t u : Bool) → eqb code 2 ≡ u → t || eqb code 3 ≡ has_left_colon (cond t Left (cond u Right (cond (eqb code 3) Center None)))
-  go true u e = refl
-  go false true e = rw (eqb-true code 2 e)
-  go false false e = center (eqb code 3) where
-    center : (v : Bool) → v ≡ has_left_colon (cond v Center None)
-    center true = refl
-    center false = refl
-
-pub right-code : (code : ℕ) → eqb code 2 || eqb code 3 ≡ has_right_colon (code_alignment code)
-right-code code = go (eqb code 1) refl where
-  other : (u v : Bool) → u || v ≡ has_right_colon (cond u Right (cond v Center None))
-  other true v = refl
-  other false true = refl
-  other false false = refl
-
-  go : (t : Bool) → eqb code 1 ≡ t → eqb code 2 || eqb code 3 ≡ has_right_colon (cond t Left (cond (eqb code 2) Right (cond (eqb code 3) Center None)))
-  go true e = rw (eqb-true code 1 e)
-  go false e = other (eqb code 2) (eqb code 3)
 
 -- ---- one colon, and the two of a column
 module _ (line column : ℕ) (canvas : List ℕ) where

@@ -5,13 +5,15 @@ use mathlib.Core.Bool.{Bool, true, false, ◌&&◌, ◌||◌, cond}
 use mathlib.Core.List.{List}
 use native.Mathlib.Omega.{arith}
 use lib.Dec.{eqb}
-use lib.ListN.{length, get_or, set}
+use lib.ListN.{length, set}
 use Rattle.seq.specs.Lists.{range, any}
 use Rattle.seq.proofs.Gathered.{any-more}
 use Rattle.text.specs.Characters.{plus}
 use Rattle.grid.specs.LayoutCall.{slot_space}
 use Rattle.representation.specs.Arrays.{code_at, rect_in}
 use Rattle.representation.specs.LayoutEntries.{Inside}
+use Rattle.representation.specs.Lent.{rect_of}
+use Rattle.representation.specs.declared.rect.Rect.{Rect}
 use Rattle.canvas.specs.Painting.{Drawn, corner_of, cornered, all_cornered}
 use Rattle.canvas.proofs.SlotLaws.{code-set, set_room, put-twice, put_both}
 
@@ -23,18 +25,18 @@ both-lines true true false w old = refl
 both-lines true false u w old = refl
 both-lines false b u w old = refl
 
-module _ (rects : List ℕ) (k : ℕ) (canvas : List ℕ) (r : Inside 128 128 (rect_in rects k)) (room : slot_space ≤ length canvas) where
+module _ (rect : Rect) (canvas : List ℕ) (r : Inside 128 128 (rect_of rect)) (room : slot_space ≤ length canvas) where
   abbrev top : ℕ
-  top = get_or rects (4 * k) 0
+  top = rect.top
 
   abbrev left : ℕ
-  left = get_or rects (4 * k + 1) 0
+  left = rect.left.0
 
   abbrev bottom : ℕ
-  bottom = get_or rects (4 * k + 2) 0
+  bottom = rect.bottom
 
   abbrev right : ℕ
-  right = get_or rects (4 * k + 3) 0
+  right = rect.right.0
 
   abbrev one : List ℕ
   one = set canvas (top * 128 + left) plus
@@ -56,7 +58,7 @@ module _ (rects : List ℕ) (k : ℕ) (canvas : List ℕ) (r : Inside 128 128 (r
       ∙ ap (cond (eqb j y && eqb i right) plus) (code-set before (y * 128 + left) y left plus j i space refl u near.0 hi)
       ∙ put_both (eqb j y) (eqb i left) (eqb i right) plus (code_at before j i)
 
-  pub corners-put : Drawn (cornered (rect_in rects k)) canvas (set (set two (bottom * 128 + left) plus) (bottom * 128 + right) plus)
+  pub corners-put : Drawn (cornered (rect_of rect)) canvas (set (set two (bottom * 128 + left) plus) (bottom * 128 + right) plus)
   unfolding cornered
   corners-put =
       record {
@@ -81,7 +83,3 @@ corners-next rects k canvas₀ canvas after d e =
           e.slot j i hj hi ∙ ap (cornered (rect_in rects k) j i) (d.slot j i hj hi)
           ∙ put-twice (any test (range 0 k)) (test k) plus (code_at canvas₀ j i) ∙ rw (any-more test k);
     }
-
-pub corners-end : (rects : List ℕ) (n k : ℕ) (canvas₀ canvas : List ℕ) → k ≤ n → n ≤ k
-    → Drawn (all_cornered rects k) canvas₀ canvas → Drawn (all_cornered rects n) canvas₀ canvas
-corners-end rects n k canvas₀ canvas low high d = let e : k ≡ n = omega arith in rw (← e) d

@@ -1,13 +1,11 @@
 -- The borders of the first k cells in their array.
-use Prim.Native.Nat.{ℕ, ◌+◌, ◌*◌, ◌≤◌, ◌<◌}
+use Prim.Native.Nat.{ℕ, ◌+◌, ◌≤◌, ◌<◌}
 use mathlib.Core.Path.{◌≡◌, refl, sym, ap, ◌∙◌}
 use mathlib.Core.List.{List, [], ◌∷◌, map, map-append}
 use native.Mathlib.Omega.{arith}
 use native.Mathlib.Nat.{zero-add}
-use lib.ListN.{length, get_or, length-map}
+use lib.ListN.{length, length-map}
 use lib.Seq.{ext_get_or}
-use mir.Syntax.{w64}
-use mir.Val.{Fits}
 use Rattle.seq.specs.Lists.{range, up_to}
 use Rattle.seq.proofs.Ranges.{length-range}
 use Rattle.seq.proofs.Positions.{get_d_map, get_or-made}
@@ -35,27 +33,8 @@ pub frames-start : (cells xs ys : List ℕ) (n : ℕ) (rects : List ℕ) → ((k
 unfolding rects_of range
 frames-start cells xs ys n rects all = record { placeable = all; within = omega arith; kept = refl; placed = refl }
 
--- an index of 128 numbers of 8 bytes
-pub index-fits : {n : ℕ} → n < 128 → Fits w64 n
-index-fits h = record { fits = omega arith }
-
-pub place-fits : {n : ℕ} → n < 128 → Fits w64 (n * 8)
-place-fits h = record { fits = omega arith }
-
 -- the next cell
 module _ (cells xs ys : List ℕ) (n : ℕ) (rects₀ rects : List ℕ) (k : ℕ) (s : FramesSoFar cells xs ys n rects₀ rects k) (h : k < n) where
-  pub row_small : get_or cells (5 * k) 0 < 128
-  row_small = omega (arith, (s.placeable k h).rows)
-
-  pub column-small : get_or cells (5 * k + 1) 0 < 128
-  column-small = omega (arith, (s.placeable k h).columns)
-
-  pub end-row-small : get_or cells (5 * k) 0 + get_or cells (5 * k + 3) 0 < 128
-  end-row-small = (s.placeable k h).rows
-
-  pub end-column-small : get_or cells (5 * k + 1) 0 + get_or cells (5 * k + 2) 0 < 128
-  end-column-small = (s.placeable k h).columns
-
   abbrev frame : Rect
   frame = frame_in cells xs ys k
 

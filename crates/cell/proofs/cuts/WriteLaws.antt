@@ -1,17 +1,15 @@
 -- Laws of the loop that writes the cut lines of a cell.
-use Prim.Native.Nat.{ℕ, suc, ◌+◌, ◌*◌, ◌-◌, ◌≤◌, ◌<◌}
+use Prim.Native.Nat.{ℕ, ◌+◌, ◌*◌, ◌-◌, ◌≤◌, ◌<◌}
 use mathlib.Core.Path.{◌≡◌, refl, ap, ◌∙◌}
-use mathlib.Core.List.{List}
+use mathlib.Core.List.{List, [], ◌∷◌, ◌++◌, flat_map}
 use native.Mathlib.Omega.{arith}
 use native.Mathlib.Nat.{zero-add}
-use native.Mathlib.Numerals.{add-one}
-use lib.ListN.{length, get_or, set, length-map}
-use mir.Syntax.{w16}
-use mir.Val.{Fits}
+use lib.ListN.{length, get_or, take, drop, length-map}
+use lib.Seq.{length-take-le}
 use Rattle.seq.proofs.Ranges.{length-range}
 use Rattle.seq.proofs.Positions.{get_or-range, get_d_map}
 use Rattle.seq.proofs.FlatMaps.{length-flat_map}
-use Rattle.seq.proofs.Entries.{Written, none_written, all-written, write-sets}
+use Rattle.seq.proofs.Entries.{Written, none_written, all-written, write-more}
 use Rattle.grid.specs.Answer.{over}
 use Rattle.grid.specs.Values.{Rect}
 use Rattle.grid.specs.Layout.{inner_lines}
@@ -33,50 +31,34 @@ pub length-entries : (s : Source) (r : Rect) → length (cut_array (cuts_of s r)
 length-entries s r = length-flat_map 4 four_of (cuts_of s r) (λ b. refl) ∙ ap (λ n. 4 * n) (length-cuts s r)
 
 -- the cuts of the inner lines above y
-pub record CutsWritten (s : Source) (top left bottom right : ℕ) (buffer : List ℕ) (y : ℕ) (out : List ℕ) : Type 0 where
-  pub entries : Written four_of (cuts_of s (record { top = top; left = left; bottom = bottom; right = right })) 0 buffer (y - top - 1) out
+pub record CutsWritten (s : Source) (r : Rect) (buffer : List ℕ) (y : ℕ) (out : List ℕ) : Type 0 where
+  pub entries : Written four_of (cuts_of s r) 0 buffer (y - r.top - 1) out
 
-module _ (s : Source) (top left bottom right : ℕ) (buffer : List ℕ) where
-  abbrev rect : Rect
-  rect = record { top = top; left = left; bottom = bottom; right = right }
+module _ (s : Source) (r : Rect) (buffer : List ℕ) where
+  pub cuts_written-none : CutsWritten s r buffer (r.top + 1) buffer
+  cuts_written-none = let e : r.top + 1 - r.top - 1 ≡ 0 = omega arith in record { entries = rw e (none_written four_of (cuts_of s r) 0 buffer) }
 
-  pub cuts_written-none : CutsWritten s top left bottom right buffer (top + 1) buffer
-  cuts_written-none = let e : top + 1 - top - 1 ≡ 0 = omega arith in record { entries = rw e (none_written four_of (cuts_of s rect) 0 buffer) }
-
-  module _ (y : ℕ) (low : top < y) where
-    module _ (framed : Framed s rect) (high : y < bottom) where
-      pub framed-cuttable : Cuttable s left right y
+  module _ (y : ℕ) (low : r.top < y) where
+    module _ (framed : Framed s r) (high : y < r.bottom) where
+      pub framed-cuttable : Cuttable s r.left r.right y
       framed-cuttable = framed.borders y low high
 
-      pub framed-line-fits : Fits w16 y
-      framed-line-fits = record { fits = omega (arith, framed.inside.tall) }
+    module _ (out : List ℕ) (w : CutsWritten s r buffer y out) where
+      pub cuts_written-next : (p : Piece) → y < r.bottom → 4 * (r.bottom - r.top - 1) ≤ length buffer → PieceOf s r.left r.right y p → (at : ℕ) (out' : List ℕ)
+          → out' ≡ take at out ++ (y ∷ p.start.0 ∷ p.end.0 ∷ p.column.0 ∷ []) ++ drop (at + 4) out → at ≡ 4 * (y - r.top - 1) → CutsWritten s r buffer (y + 1) out'
+      cuts_written-next p high room told at out' written e =
+          let k : y + 1 - r.top - 1 ≡ y - r.top - 1 + 1 = omega arith in
+          let before : length (flat_map four_of (take (y - r.top - 1) (cuts_of s r))) ≡ 4 * (y - r.top - 1) =
+          length-flat_map 4 four_of (take (y - r.top - 1) (cuts_of s r)) (λ b. refl) ∙ rw (length-take-le (y - r.top - 1) (cuts_of s r) (rw (length-cuts s r) (omega arith))) in
+          let here : get_or (cuts_of s r) (y - r.top - 1) no_cut ≡ record { start = p.start.0; end = p.end.0; line = y; byte = p.start.0; column = p.column.0 } =
+          get_d_map (λ y. cut_numbers 0 (fragment_between s r.left r.right y)) (inner_lines r) (y - r.top - 1) no_cut 0 (rw length-range (omega arith))
+          ∙ ap (λ y. cut_numbers 0 (fragment_between s r.left r.right y)) (get_or-range (r.top + 1) (r.bottom - r.top - 1) (y - r.top - 1) 0 (omega arith) ∙ omega arith) ∙ told.numbers in
+          record {
+            entries =
+                rw k
+                (write-more four_of (cuts_of s r) 0 buffer out (y - r.top - 1) no_cut (rw (length-cuts s r) (omega arith)) w.entries at out' (rw before (omega arith)) (omega arith)
+                (rw here written));
+          }
 
-    module _ (out : List ℕ) (w : CutsWritten s top left bottom right buffer y out) where
-      pub cuts_written-next : (i : ℕ) (p : Piece) → y < bottom → i ≡ 4 * (y - top - 1) → 4 * (bottom - top - 1) ≤ length buffer → PieceOf s left right y p
-          → CutsWritten s top left bottom right buffer (y + 1)
-          (set (set (set (set out i y) (i + 1) p.start.0) (i + 2) p.end.0) (i + 3) p.column.0)
-      cuts_written-next i p high e room told =
-          let two : i + 2 ≡ suc (suc i) = omega arith in
-          let three : i + 3 ≡ suc (suc (suc i)) = omega arith in
-          let k : y + 1 - top - 1 ≡ y - top - 1 + 1 = omega arith in
-          let here : get_or (cuts_of s rect) (y - top - 1) no_cut ≡ record { start = p.start.0; end = p.end.0; line = y; byte = p.start.0; column = p.column.0 } =
-          get_d_map (λ y. cut_numbers 0 (fragment_between s left right y)) (inner_lines rect) (y - top - 1) no_cut 0 (rw length-range (omega arith))
-          ∙ ap (λ y. cut_numbers 0 (fragment_between s left right y)) (get_or-range (top + 1) (bottom - top - 1) (y - top - 1) 0 (omega arith) ∙ omega arith) ∙ told.numbers in
-          let step =
-          write-sets four_of (cuts_of s rect) 0 buffer out (y - top - 1) no_cut (rw (length-cuts s rect) (omega arith)) w.entries 4 (λ b. refl)
-          (rw (length-cuts s rect) (omega arith)) in
-          record { entries = rw (k, three, two, add-one i, e) (rw (here, zero-add) at step) }
-
-      pub cuts_written-all : bottom ≤ y → out ≡ over (cut_array (cuts_of s rect)) buffer
-      cuts_written-all high = all-written four_of (cuts_of s rect) 0 buffer out (y - top - 1) (rw (length-cuts s rect) (omega arith)) w.entries ∙ rw zero-add
-
--- the numbers of a piece are small
-module _ (s : Source) (left right y : ℕ) (p : Piece) (told : PieceOf s left right y p) where
-  pub piece-start-fits : Fits w16 p.start.0
-  piece-start-fits = record { fits = omega (arith, told.forward, told.short_end) }
-
-  pub piece-end-fits : Fits w16 p.end.0
-  piece-end-fits = record { fits = omega (arith, told.short_end) }
-
-  pub piece-column-fits : Fits w16 p.column.0
-  piece-column-fits = record { fits = omega (arith, told.low_column) }
+      pub cuts_written-all : r.bottom ≤ y → out ≡ over (cut_array (cuts_of s r)) buffer
+      cuts_written-all high = all-written four_of (cuts_of s r) 0 buffer out (y - r.top - 1) (rw (length-cuts s r) (omega arith)) w.entries ∙ rw zero-add

@@ -1,31 +1,39 @@
 -- `cell::finish_cell` meets its contract: 13, 12, or the cut lines written.
 use native.Mathlib.Omega.{arith}
-use Rattle.cell.proofs.CellLaws.{cell_count_of-past, cutting-framed, cutting-ordered, cutting-some, cutting-fits, cutting-ready, cell_count_of-short, cell_count_of-written}
+use Rattle.cell.proofs.FrameLaws.{traced-startable, traced-ready}
+use Rattle.cell.proofs.CellLaws.{cell_count_of-past, cutting-framed, cutting-ordered, cutting-some, cutting-fits, cell_count_of-short, cell_count_of-written}
 use Rattle.cell.proofs.finish_cell.Goals as goal
 
 pub returns-then-n-k : goal.returns-then-n-k
-returns-then-n-k c = cell_count_of-past c.args.n c.args.k _ _ (omega arith)
+returns-then-n-k c =
+    let past = cell_count_of-past c.args.traced.reading.cells c.args.k _ _ (omega arith) in
+    record { answer = past.0; written = past.1 }
 
 pub overflow_sub-count : goal.overflow_sub-count
-overflow_sub-count c = search cutting-ordered
+overflow_sub-count c = cutting-ordered _ _ c.args.traced.traced c.args.starts.now _ c.if-n-k.false c.at-rect.ensures
 
 pub overflow_sub-count-2 : goal.overflow_sub-count-2
-overflow_sub-count-2 c = search cutting-some
+overflow_sub-count-2 c = cutting-some _ _ c.args.traced.traced c.args.starts.now _ c.if-n-k.false c.at-rect.ensures
 
 pub overflow_mul-count : goal.overflow_mul-count
-overflow_mul-count c = search cutting-fits
+overflow_mul-count c = cutting-fits _ _ c.args.traced.traced c.args.starts.now _ c.if-n-k.false c.at-rect.ensures
 
 pub returns-then-out-count : goal.returns-then-out-count
-returns-then-out-count c = cell_count_of-short _ _ _ _ _ _ _ _ c.requires c.if-n-k.false _ c.if-out-count.true
+returns-then-out-count c =
+    let short = cell_count_of-short _ _ c.args.traced.traced c.args.starts.now _ c.if-n-k.false c.at-rect.ensures _ c.if-out-count.true in
+    record { answer = short.0; written = short.1 }
 
-pub write_cuts-requires-clause-source_ready : goal.write_cuts-requires-clause-source_ready
-write_cuts-requires-clause-source_ready c = search (cutting-ready, cutting-framed)
+pub line_starts-requires : goal.line_starts-requires
+line_starts-requires c = traced-startable _ _ c.args.traced.traced _ c.requires
 
-pub write_cuts-requires-clause-fact : goal.write_cuts-requires-clause-fact
-write_cuts-requires-clause-fact c = search (cutting-ready, cutting-framed)
+pub invariant_of-source : goal.invariant_of-source
+invariant_of-source c =
+    record { ready = traced-ready _ _ c.args.traced.traced _ c.requires _ c.line_starts.ensures.starts_len_unchanged c.line_starts.ensures.by_index }
 
-pub write_cuts-requires-clause-top_in_bounds : goal.write_cuts-requires-clause-top_in_bounds
-write_cuts-requires-clause-top_in_bounds c = search (cutting-ready, cutting-framed)
+pub write_cuts-requires-clause-framed : goal.write_cuts-requires-clause-framed
+write_cuts-requires-clause-framed c = cutting-framed _ _ c.args.traced.traced c.args.starts.now _ c.if-n-k.false c.at-rect.ensures _
 
 pub returns : goal.returns
-returns c = cell_count_of-written _ _ _ _ _ _ _ _ c.requires c.if-n-k.false _ c.if-out-count.false _ c.write_cuts.ensures
+returns c =
+    let written = cell_count_of-written _ _ c.args.traced.traced c.args.starts.now _ c.if-n-k.false c.at-rect.ensures _ c.if-out-count.false _ c.write_cuts.ensures in
+    record { answer = written.0; written = written.1 }

@@ -44,52 +44,49 @@ length-end : (l : List (List ℕ)) (t : List ℕ) → length (l ++ t ∷ []) ≡
 length-end [] t = refl
 length-end (u ∷ l) t = rw (length-end l t) (omega arith)
 
-module _ (s : Source) (top left bottom right : ℕ) where
-  abbrev rect : Rect
-  rect = record { top = top; left = left; bottom = bottom; right = right }
-
+module _ (s : Source) (r : Rect) where
   -- the cut lines above line y
   abbrev above : ℕ → List (List ℕ)
-  above y = map (cut_between s left right) (range (top + 1) (y - top - 1))
+  above y = map (cut_between s r.left r.right) (range (r.top + 1) (y - r.top - 1))
 
   pub record Measuring (lines bytes y : ℕ) : Type 0 where
     pub counted : lines ≡ length (drop_empty_last (above y))
     pub summed : bytes ≡ sum (map length (above y))
-    pub few_lines : lines ≤ y - top - 1
-    pub few_bytes : bytes ≤ 512 * (y - top - 1)
+    pub few_lines : lines ≤ y - r.top - 1
+    pub few_bytes : bytes ≤ 512 * (y - r.top - 1)
 
-  pub measuring-all : (lines bytes y : ℕ) → Measuring lines bytes y → Framed s rect → y ≤ bottom → bottom ≤ y
-      → ((lines ≡ length (kept_lines s rect)) × (lines < 128))
-      × ((bytes ≡ sum (map length (kept_lines s rect))) × (bytes ≤ 65536))
+  pub measuring-all : (lines bytes y : ℕ) → Measuring lines bytes y → Framed s r → y ≤ r.bottom → r.bottom ≤ y
+      → ((lines ≡ length (kept_lines s r)) × (lines < 128))
+      × ((bytes ≡ sum (map length (kept_lines s r))) × (bytes ≤ 65536))
   measuring-all lines bytes y m framed below past =
-      let done : y ≡ bottom = omega arith in (
+      let done : y ≡ r.bottom = omega arith in (
         (rw done at m.counted, omega (arith, m.few_lines, framed.inside.tall)),
-        (rw done at m.summed ∙ sym (dropped-bytes (above bottom)), omega (arith, m.few_bytes, framed.inside.tall)),
+        (rw done at m.summed ∙ sym (dropped-bytes (above r.bottom)), omega (arith, m.few_bytes, framed.inside.tall)),
       )
 
-  pub measuring-none : Measuring 0 0 (top + 1)
+  pub measuring-none : Measuring 0 0 (r.top + 1)
   unfolding drop_empty_last sum range
   measuring-none =
-      let none : top + 1 - top - 1 ≡ 0 = omega arith in
+      let none : r.top + 1 - r.top - 1 ≡ 0 = omega arith in
       record { counted = rw none; summed = rw none; few_lines = omega arith; few_bytes = omega arith }
 
-  module _ (framed : Framed s rect) where
-    pub framed-cuttable : (y : ℕ) → top < y → y < bottom → Cuttable s left right y
+  module _ (framed : Framed s r) where
+    pub framed-cuttable : (y : ℕ) → r.top < y → y < r.bottom → Cuttable s r.left r.right y
     framed-cuttable = framed.borders
 
-    module _ (ready : SourceReady s) (y : ℕ) (low : top < y) (high : y < bottom) (t : List ℕ)
-        (told : t ≡ cut_between s left right y) where
+    module _ (ready : SourceReady s) (y : ℕ) (low : r.top < y) (high : y < r.bottom) (t : List ℕ)
+        (told : t ≡ cut_between s r.left r.right y) where
       pub cut_short : length t ≤ 512
       cut_short =
           rw told
           (let c = framed.borders y low high in
-          omega (arith, cut-shorter (get_or (lines_from s.lengths s.columns s.text) y no_line) y 0 (record { start = code_at s.offsets y left + 1; end = code_at s.offsets y right }) left, c.inside, ready.sheet.short_lines y))
+          omega (arith, cut-shorter (get_or (lines_from s.lengths s.columns s.text) y no_line) y 0 (record { start = code_at s.offsets y r.left + 1; end = code_at s.offsets y r.right }) r.left, c.inside, ready.sheet.short_lines y))
 
       next : above (y + 1) ≡ above y ++ t ∷ []
       next =
-          let more : y + 1 - top - 1 ≡ y - top - 1 + 1 = omega arith in
-          let here : top + 1 + (y - top - 1) ≡ y = omega arith in
-          rw (more, range-step (top + 1) (y - top - 1), map-end (cut_between s left right) (range (top + 1) (y - top - 1)) (top + 1 + (y - top - 1)), here, told)
+          let more : y + 1 - r.top - 1 ≡ y - r.top - 1 + 1 = omega arith in
+          let here : r.top + 1 + (y - r.top - 1) ≡ y = omega arith in
+          rw (more, range-step (r.top + 1) (y - r.top - 1), map-end (cut_between s r.left r.right) (range (r.top + 1) (y - r.top - 1)) (r.top + 1 + (y - r.top - 1)), here, told)
 
       module _ {lines bytes : ℕ} (m : Measuring lines bytes y) where
         pub measuring-fits : Fits w64 (bytes + length t)
@@ -110,10 +107,10 @@ module _ (s : Source) (top left bottom right : ℕ) where
               none_left [] e = refl
               none_left (b ∷ bs) e = absurd (omega arith)
 
-        pub measuring-filled : (length t ≡ 0 → ⊥) → {lines' : ℕ} → lines' ≡ y - top → Measuring lines' (bytes + length t) (y + 1)
+        pub measuring-filled : (length t ≡ 0 → ⊥) → {lines' : ℕ} → lines' ≡ y - r.top → Measuring lines' (bytes + length t) (y + 1)
         measuring-filled some is =
             rw is (record {
-              counted = rw (next, kept-filled (above y) t some, length-end (above y) t, length-map (range (top + 1) (y - top - 1)) (cut_between s left right), length-range (top + 1) (y - top - 1)) (omega arith);
+              counted = rw (next, kept-filled (above y) t some, length-end (above y) t, length-map (range (r.top + 1) (y - r.top - 1)) (cut_between s r.left r.right), length-range (r.top + 1) (y - r.top - 1)) (omega arith);
               summed = summed-more;
               few_lines = omega arith;
               few_bytes = omega (arith, m.few_bytes, cut_short);

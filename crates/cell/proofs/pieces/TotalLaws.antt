@@ -2,7 +2,7 @@
 use Prim.Native.Nat.{ℕ, ◌+◌, ◌*◌, ◌≤◌, ◌<◌}
 use mathlib.Core.Path.{◌≡◌, refl, sym, ap, ◌∙◌}
 use mathlib.Core.Logic.{⊎_elim}
-use mathlib.Core.List.{List, map, Memᴰ}
+use mathlib.Core.List.{List, map}
 use native.Mathlib.Nat.{eq-or-lt_of_le}
 use native.Mathlib.Omega.{arith}
 use lib.ListN.{length, get_or, take, set, length-set}
@@ -18,8 +18,7 @@ use Rattle.grid.specs.Flat.{join_text}
 use Rattle.representation.specs.Arrays.{rects_of, rect_in}
 use Rattle.representation.proofs.RectsLaws.{length-rects, get_or-rects}
 use Rattle.seq.proofs.Positions.{get_or-mem}
-use Rattle.cell.specs.Text.{Source, source, kept_lines, all_lines, no_rect, SourceReady, Framed, CountedBy, Preparable, Prepared, most_text}
-use Rattle.cell.specs.declared.pieces.TextSize.{TextSize}
+use Rattle.cell.specs.Text.{Source, kept_lines, all_lines, no_rect, Framed, AllFramed, CountedBy, most_text}
 
 -- a text's bytes, line by line
 pub length-join : (l : List (List ℕ)) → length (join_text l) ≡ sum (map length l)
@@ -30,7 +29,7 @@ module _ (s : Source) (rects : List ℕ) (n : ℕ) (counts₀ : List ℕ) where
   kept r = kept_lines s r
 
   pub record Totalling (counts : List ℕ) (lines bytes k : ℕ) : Type 0 where
-    pub framed : (r : Rect) → Memᴰ r (rects_of n rects) → Framed s r
+    pub framed : AllFramed s (rects_of n rects)
     pub same : length counts ≡ length counts₀
     pub room : n ≤ length counts₀
     pub noted : (i : ℕ) → i < k → get_or counts i 0 ≡ length (kept (get_or (rects_of n rects) i no_rect))
@@ -39,43 +38,44 @@ module _ (s : Source) (rects : List ℕ) (n : ℕ) (counts₀ : List ℕ) where
     pub few_lines : lines ≤ 128 * k
     pub few_bytes : bytes ≤ 65536 * k
 
-  pub totalling-none : ((r : Rect) → Memᴰ r (rects_of n rects) → Framed s r) → n ≤ length counts₀ → Totalling counts₀ 0 0 0
+  pub totalling-none : AllFramed s (rects_of n rects) → n ≤ length counts₀ → Totalling counts₀ 0 0 0
   unfolding sum
   totalling-none framed room =
       record { framed = framed; same = refl; room = room; noted = λ i low. absurd (omega arith); counted = refl; summed = refl; few_lines = omega arith; few_bytes = omega arith }
 
   module _ {counts : List ℕ} {lines bytes k : ℕ} (t : Totalling counts lines bytes k) where
     module _ (h : k < n) where
-      here : get_or (rects_of n rects) k no_rect ≡ rect_in rects k
-      here = get_or-rects n k rects no_rect h
-
-      pub totalling-framed : Framed s (rect_in rects k)
-      totalling-framed = rw here at (t.framed (get_or (rects_of n rects) k no_rect) (get_or-mem (rects_of n rects) k no_rect (rw length-rects h)))
-
       pub totalling-room : k < length counts
       totalling-room = omega (arith, t.same, t.room)
 
-      module _ {more extra : ℕ} (size : (more ≡ length (kept (rect_in rects k))) × (more < 128)) (weight : (extra ≡ sum (map length (kept (rect_in rects k)))) × (extra ≤ 65536)) where
-        pub totalling-lines-fit : n ≤ 1024 → Fits w64 (lines + more)
-        totalling-lines-fit few = Fits-under w64 (lines + more) 1000000 (omega (arith, t.few_lines, size.1)) tt
+      module _ {r : Rect} (held : r ≡ rect_in rects k) where
+        here : get_or (rects_of n rects) k no_rect ≡ r
+        here = get_or-rects n k rects no_rect h ∙ sym held
 
-        pub totalling-bytes-fit : n ≤ 1024 → Fits w64 (bytes + extra)
-        totalling-bytes-fit few = Fits-under w64 (bytes + extra) 100000000 (omega (arith, t.few_bytes, weight.1)) tt
+        pub totalling-framed : Framed s r
+        totalling-framed = rw here at (t.framed (get_or (rects_of n rects) k no_rect) (get_or-mem (rects_of n rects) k no_rect (rw length-rects h)))
 
-        pub totalling-next : Totalling (set counts k more) (lines + more) (bytes + extra) (k + 1)
-        totalling-next =
-            record {
-              framed = t.framed;
-              same = length-set counts k more ∙ t.same;
-              room = t.room;
-              noted = λ i low.
-                  ⊎_elim (λ (is : i ≡ k). rw is (get_or-set_same counts k more 0 totalling-room ∙ size.0 ∙ ap (λ r. length (kept r)) (sym here)))
-                  (λ (before : i < k). get_or-set_other counts k i more 0 (λ e. omega arith) ∙ t.noted i before) (eq-or-lt_of_le (omega arith));
-              counted = omega (arith, t.counted, size.0, ap (λ r. length (kept r)) here, sum_more (λ r. length (kept r)) (rects_of n rects) k no_rect (rw length-rects h));
-              summed = omega (arith, t.summed, weight.0, ap (λ r. sum (map length (kept r))) here, sum_more (λ r. sum (map length (kept r))) (rects_of n rects) k no_rect (rw length-rects h));
-              few_lines = omega (arith, t.few_lines, size.1);
-              few_bytes = omega (arith, t.few_bytes, weight.1);
-            }
+        module _ {more extra : ℕ} (size : (more ≡ length (kept r)) × (more < 128)) (weight : (extra ≡ sum (map length (kept r))) × (extra ≤ 65536)) where
+          pub totalling-lines-fit : n ≤ 1024 → Fits w64 (lines + more)
+          totalling-lines-fit few = Fits-under w64 (lines + more) 1000000 (omega (arith, t.few_lines, size.1)) tt
+
+          pub totalling-bytes-fit : n ≤ 1024 → Fits w64 (bytes + extra)
+          totalling-bytes-fit few = Fits-under w64 (bytes + extra) 100000000 (omega (arith, t.few_bytes, weight.1)) tt
+
+          pub totalling-next : Totalling (set counts k more) (lines + more) (bytes + extra) (k + 1)
+          totalling-next =
+              record {
+                framed = t.framed;
+                same = length-set counts k more ∙ t.same;
+                room = t.room;
+                noted = λ i low.
+                    ⊎_elim (λ (is : i ≡ k). rw is (get_or-set_same counts k more 0 totalling-room ∙ size.0 ∙ ap (λ r. length (kept r)) (sym here)))
+                    (λ (before : i < k). get_or-set_other counts k i more 0 (λ e. omega arith) ∙ t.noted i before) (eq-or-lt_of_le (omega arith));
+                counted = omega (arith, t.counted, size.0, ap (λ r. length (kept r)) here, sum_more (λ r. length (kept r)) (rects_of n rects) k no_rect (rw length-rects h));
+                summed = omega (arith, t.summed, weight.0, ap (λ r. sum (map length (kept r))) here, sum_more (λ r. sum (map length (kept r))) (rects_of n rects) k no_rect (rw length-rects h));
+                few_lines = omega (arith, t.few_lines, size.1);
+                few_bytes = omega (arith, t.few_bytes, weight.1);
+              }
 
     pub totalling-all : k ≤ n → n ≤ 1024 → n ≤ k
         → (lines ≡ length (all_lines s (rects_of n rects)))
@@ -97,19 +97,3 @@ pub counted-here : (f : Rect → ℕ) (rects : List ℕ) (n : ℕ) (counts : Lis
     → get_or counts k 0 ≡ f (rect_in rects k)
 counted-here f rects n counts k counted h =
     counted.1 k (rw length-rects h) ∙ ap f (get_or-rects n k rects no_rect h)
-
--- ---- with where lines start
-module _ (lengths columns text offsets rects : List ℕ) (n : ℕ) (starts₀ counts₀ : List ℕ) (p : Preparable lengths columns text offsets rects n starts₀ counts₀) (starts : List ℕ)
-    (started : (length starts ≡ length starts₀) × ((y : ℕ) → y < length lengths → get_or starts y 0 ≡ sum (take y lengths))) where
-  ready : SourceReady (source lengths columns text starts offsets)
-  ready = record { sheet = p.sheet; few_bytes = p.few_bytes; start_room = omega (arith, p.start_room, started.0); started = started.1; offset_room = p.offset_room }
-
-  pub preparable-measured : SourceReady (source lengths columns text starts offsets) × (((n ≤ 1024) × (4 * n ≤ length rects) × (n ≤ length counts₀)) × ((r : Rect) → Memᴰ r (rects_of n rects) → Framed (source lengths columns text starts offsets) r))
-  preparable-measured = (ready, ((p.few, p.rect_room, p.count_room), p.framed starts))
-
-  pub preparable-prepared : (counts : List ℕ) (size : TextSize)
-      → (size.lines ≡ length (all_lines (source lengths columns text starts offsets) (rects_of n rects)))
-      × (size.bytes ≡ length (join_text (all_lines (source lengths columns text starts offsets) (rects_of n rects))))
-      × CountedBy (λ r. length (kept_lines (source lengths columns text starts offsets) r)) (rects_of n rects) counts × (size.bytes ≤ most_text)
-      → Prepared (source lengths columns text starts offsets) (rects_of n rects) counts size
-  preparable-prepared counts size m = record { ready = ready; lines = m.0; bytes = m.1; counted = m.2; few_bytes = m.3 }

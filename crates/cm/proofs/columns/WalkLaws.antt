@@ -1,4 +1,6 @@
 -- Laws of the columns of a text, character by character, and of one without a tab.
+use Rattle.std.specs.Prelude.{Some}
+use Rattle.text.specs.declared.Character.{Character}
 use Prim.Native.Nat.{ℕ, ◌+◌, ◌*◌, ◌-◌, ◌^◌, ◌≤◌, ◌<◌}
 use mathlib.Core.Path.{◌≡◌, sym, ◌∙◌}
 use mathlib.Core.Bool.{Bool, true, false}
@@ -6,7 +8,6 @@ use mathlib.Core.List.{List, []}
 use native.Mathlib.Omega.{arith}
 use native.Mathlib.Nat.{add-zero, add_assoc}
 use lib.ListN.{length, drop, drop_of_length-le}
-use Rattle.text.specs.declared.Decoded.TheVariants.{Character}
 use Rattle.text.specs.Characters.{span}
 use Rattle.seq.specs.Lists.{any}
 use Rattle.text.specs.Columns.{columns_from, is_tab, added_columns}
@@ -33,30 +34,30 @@ module _ (line : List ℕ) (first byte n : ℕ) (so_far : Walked line first byte
   pub columns-room : first ≤ 1024 → length line ≤ 512 → first + n < 2 ^ 64
   columns-room u w = omega (arith, so_far.in_line, so_far.few)
 
-  module _ (value size count : ℕ) (is : character (drop byte line) ≡ Character value size) (spans : count ≡ span (first + n) value) where
-    pub walked_next : Walked line first (byte + size) (n + count)
+  module _ (c : Character) (count : ℕ) (is : character (drop byte line) ≡ Some c) (spans : count ≡ span (first + n) c.value) where
+    pub walked_next : Walked line first (byte + c.size) (n + count)
     unfolding columns_from
     walked_next =
-        let fits = size_fits line byte value size is in
-        let four = span-four-columns-at-most (first + n) value in
-        let ahead : n + (span (first + n) value + columns_from (first + n + span (first + n) value) (chars_from (byte + size) 0 (drop (byte + size) line))) ≡ columns_from first (char_indices line) =
-        rw (chars-next line byte value size is) at so_far.left in
+        let fits = size_fits line byte c is in
+        let four = span-four-columns-at-most (first + n) c.value in
+        let ahead : n + (span (first + n) c.value + columns_from (first + n + span (first + n) c.value) (chars_from (byte + c.size) 0 (drop (byte + c.size) line))) ≡ columns_from first (char_indices line) =
+        rw (chars-next line byte c is) at so_far.left in
         record {
           in_line = fits.1;
-          well = sym (well-next line byte value size is) ∙ so_far.well;
+          well = sym (well-next line byte c is) ∙ so_far.well;
           few = omega (arith, so_far.few, fits.0);
-          left = rw (spans, ← add_assoc first n (span (first + n) value)) (omega (arith, ahead));
+          left = rw (spans, ← add_assoc first n (span (first + n) c.value)) (omega (arith, ahead));
         }
 
     pub columns-sum : length line ≤ 512 → n + count < 2 ^ 64
-    columns-sum w = omega (arith, so_far.in_line, so_far.few, span-four-columns-at-most (first + n) value)
+    columns-sum w = omega (arith, so_far.in_line, so_far.few, span-four-columns-at-most (first + n) c.value)
 
-  module _ (value size : ℕ) (is : character (drop byte line) ≡ Character value size) where
-    pub bytes-room : length line ≤ 512 → byte + size < 2 ^ 64
-    bytes-room h = omega (arith, (size_fits line byte value size is).1)
+  module _ (c : Character) (is : character (drop byte line) ≡ Some c) where
+    pub bytes-room : length line ≤ 512 → byte + c.size < 2 ^ 64
+    bytes-room h = omega (arith, (size_fits line byte c is).1)
 
-    pub bytes_left : length line - (byte + size) < length line - byte
-    bytes_left = let (some, fits) = size_fits line byte value size is in omega arith
+    pub bytes_left : length line - (byte + c.size) < length line - byte
+    bytes_left = let (some, fits) = size_fits line byte c is in omega arith
 
 -- where there is no tab, what the bytes add
 pub added-columns : (line : List ℕ) (first n : ℕ) (t : Bool) → well_formed line ≡ true → t ≡ any is_tab line → t ≡ false → n ≡ added_columns line → n ≡ columns_from first (char_indices line)

@@ -8,6 +8,7 @@ use native.Mathlib.Omega.{arith}
 use native.Mathlib.Nat.{le_refl, eq-or-lt_of_le}
 use lib.Dec.{eqb}
 use lib.ListN.{get_or}
+use Rattle.std.specs.Prelude.{Option, Some, None}
 use Rattle.seq.proofs.Positions.{mem-get_or, get_d_map}
 use Rattle.grid.specs.Values.{Rect, TableCell}
 use Rattle.grid.specs.Flat.{cells_of_array}
@@ -23,8 +24,8 @@ use Rattle.canvas.specs.Picture.{Drawable, Pictured}
 use Rattle.canvas.specs.declared.Rules.{Rules}
 use Rattle.cm.specs.Sketch.{Plan, Planned, Sketched, rules_at}
 
-pub rules-made : (heads foots rows : ℕ) (ys : List ℕ) (h f l : ℕ) → h ≡ cond (eqb heads 0) 255 (get_or ys heads 0) → f ≡ cond (eqb foots 0) 255 (get_or ys (rows - foots) 0)
-    → l ≡ cond (eqb foots 0) 255 (get_or ys rows 0) → record { head = h; foot = f; last = l } ≡ rules_at heads foots rows ys
+pub rules-made : (heads foots rows : ℕ) (ys : List ℕ) (h f l : Option ℕ) → h ≡ cond (eqb heads 0) None (Some (get_or ys heads 0))
+    → f ≡ cond (eqb foots 0) None (Some (get_or ys (rows - foots) 0)) → l ≡ cond (eqb foots 0) None (Some (get_or ys rows 0)) → record { head = h; foot = f; last = l } ≡ rules_at heads foots rows ys
 rules-made heads foots rows ys h f l p q r = rw (p, q, r) refl
 
 module _ {p : Plan} (P : Planned p) (near : get_or p.xs p.columns 0 < 128) (low : get_or p.ys p.rows 0 < 128) where

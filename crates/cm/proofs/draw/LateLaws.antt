@@ -21,8 +21,7 @@ use Rattle.grid.specs.Read.{line_too_large, drawing_too_large}
 use Rattle.grid.specs.Flat.{flat_drawing}
 use Rattle.grid.proofs.FlatDrawingLaws.{join_text-length}
 use Rattle.reading.specs.Checks.{place_of}
-use Rattle.reading.specs.declared.checks.Place.{Place}
-use Rattle.reading.specs.declared.checks.Place.TheVariants.{At, Nowhere}
+use Rattle.std.specs.Prelude.{Option, Some, None}
 use Rattle.drawing.specs.Plain.{Canvas, canvas_height, drawn_line, canvas_lines}
 use Rattle.drawing.specs.Redraw.{drawn_too_large, split_cell}
 use Rattle.drawing.specs.RedrawCall.{DrawingArrays, drawing_lent, drawing_short}
@@ -94,12 +93,12 @@ module _ {v : Canvas} {n width : ℕ} {b : Board} {canvas : List ℕ} (R : Canva
       fits : drawn_too_large v lines ≡ false
       fits = sym too_large ∙ sym test ∙ small
 
-      pub late-split : (r : Place) (k : ℕ) → place_of r ≡ split_cell v (grid_of lines) → r ≡ At k → (refuse 11 k ≡ late_sizes v origin out) × (out ≡ late_arrays v origin out)
+      pub late-split : (r : Option ℕ) (k : ℕ) → place_of r ≡ split_cell v (grid_of lines) → r ≡ Some k → (refuse 11 k ≡ late_sizes v origin out) × (out ≡ late_arrays v origin out)
       unfolding late_sizes late_arrays late_answer
       late-split r k e is = rw (fits, ← (ap place_of (sym is) ∙ e)) (refl, refl)
 
       -- 12
-      module _ (r : Place) (found : place_of r ≡ split_cell v (grid_of lines)) (is : r ≡ Nowhere) where
+      module _ (r : Option ℕ) (found : place_of r ≡ split_cell v (grid_of lines)) (is : r ≡ None) where
         whole : none ≡ split_cell v (grid_of lines)
         whole = ap place_of (sym is) ∙ found
 

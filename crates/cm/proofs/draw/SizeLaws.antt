@@ -1,19 +1,17 @@
 -- The lengths of the drawn lines: whether one is too large, and writing them.
 use Prim.Native.Nat.{ℕ, ◌+◌, ◌^◌, ◌≤◌, ◌<◌}
 use mathlib.Core.Path.{◌≡◌, refl, sym, ap, ◌∙◌}
-use mathlib.Core.Bool.{Bool, true, false, ◌||◌}
+use mathlib.Core.Bool.{Bool, false}
 use mathlib.Core.List.{List, [], ◌∷◌, ◌++◌}
 use native.Mathlib.Numerals.{add-one}
 use native.Mathlib.Omega.{arith}
 use lib.Dec.{ltb}
-use lib.ListN.{length, get_or, take, set, replicate, length-append, length-replicate, replicate-append-replicate}
+use lib.ListN.{length, get_or, take, drop, set, replicate, length-append, length-replicate}
 use lib.Seq.{take-suc, get_or-take, length-take-le}
-use borrow.Author.Tests.{lt-ltb, le-ltb, ltb-false}
+use borrow.Author.Tests.{ltb-false}
 use Rattle.seq.specs.Lists.{any}
-use Rattle.seq.proofs.Tests.{or_left}
 use Rattle.seq.proofs.Positions.{get_or-mem}
-use Rattle.seq.proofs.Searches.{mem-any, any_none}
-use Rattle.seq.proofs.Walks.{any_append}
+use Rattle.seq.proofs.Searches.{any_none}
 use Rattle.grid.specs.Answer.{over}
 use Rattle.writer.specs.Writing.{put_down}
 use Rattle.writer.proofs.WritingLaws.{put_down-length, put_down-then, put_down-one, put_down-over}
@@ -31,19 +29,6 @@ module _ (l : List ℕ) (height : ℕ) (low : height ≤ 128) (full : length l �
       let here = get_or-mem (take height l) y 0 (omega (arith, length-take-le height l room)) in
       omega (arith, ltb-false 512 (get_or (take height l) y 0) (any_none long none here), get_or-take height l y 0 u)
 
-  pub long-here : (y : ℕ) (rest : Bool) → y < height → 512 < get_or l y 0 → true ≡ any long (take height l) || rest
-  long-here y rest u h =
-      let here = get_or-mem (take height l) y 0 (omega (arith, length-take-le height l room)) in
-      sym (or_left rest (mem-any long here (lt-ltb 512 (get_or (take height l) y 0) (omega (arith, get_or-take height l y 0 u)))))
-
-  pub long-next : (y : ℕ) → y < height → any long (take y l) ≡ false → get_or l y 0 ≤ 512 → any long (take (y + 1) l) ≡ false
-  unfolding any
-  long-next y u none h =
-      rw add-one (ap (any long) (take-suc l y 0 (omega arith)) ∙ any_append long (take y l) (get_or l y 0 ∷ []) ∙ rw (none, le-ltb 512 (get_or l y 0) h) refl)
-
-  pub long-ends : (y : ℕ) (rest : Bool) → y ≤ height → height ≤ y → any long (take y l) ≡ false → rest ≡ any long (take height l) || rest
-  long-ends y rest u w none = let e : y ≡ height = omega arith in rw (rw e at none) refl
-
 -- ---- one entry after another
 over-next : (d s : List ℕ) (v : ℕ) → length s < length d → set (over s d) (length s) v ≡ over (s ++ v ∷ []) d
 over-next d s v h =
@@ -60,14 +45,11 @@ module _ (height : ℕ) where
       let more : take (y + 1) l ≡ take y l ++ get_or l y 0 ∷ [] = rw add-one (take-suc l y 0 (omega arith)) in
       rw (so_far, more) (ap (λ (k : ℕ). set (over (take y l) d) k (get_or l y 0)) (sym size) ∙ over-next d (take y l) (get_or l y 0) (omega arith))
 
-  pub columns-next : (origin : ℕ) (d out : List ℕ) (y : ℕ) → y < height → height ≤ length d → out ≡ over (replicate y origin) d
-      → set out y origin ≡ over (replicate (y + 1) origin) d
-  columns-next origin d out y u space so_far =
-      let size = length-replicate y origin in
-      rw (so_far, ← (replicate-append-replicate y 1 origin)) (ap (λ (k : ℕ). set (over (replicate y origin) d) k origin) (sym size) ∙ over-next d (replicate y origin) origin (omega arith))
-
   pub sizes-written : (l d out : List ℕ) (y : ℕ) → y ≤ height → height ≤ y → out ≡ over (take y l) d → out ≡ over (take height l) d
   sizes-written l d out y u w so_far = let e : y ≡ height = omega arith in rw e at so_far
 
-  pub columns-written : (origin : ℕ) (d out : List ℕ) (y : ℕ) → y ≤ height → height ≤ y → out ≡ over (replicate y origin) d → out ≡ over (replicate height origin) d
-  columns-written origin d out y u w so_far = let e : y ≡ height = omega arith in rw e at so_far
+  pub columns-filled : (origin : ℕ) (d filled : List ℕ) → height ≤ length d → filled ≡ replicate (length (take height d)) origin
+      → filled ++ drop height d ≡ over (replicate height origin) d
+  columns-filled origin d filled space all =
+      let same : filled ≡ replicate height origin = rw (length-take-le height d space) at all in
+      rw (same, length-replicate height origin) refl

@@ -10,12 +10,6 @@ use Rattle.cm.proofs.draw_table.Goals as goal
 pub measure_table-offsets-requires-clause-by_index : goal.measure_table-offsets-requires-clause-by_index
 measure_table-offsets-requires-clause-by_index c = (_, c.requires.tabled)
 
-pub measure_table-offsets-requires-clause-in_bounds : goal.measure_table-offsets-requires-clause-in_bounds
-measure_table-offsets-requires-clause-in_bounds c = (c.requires.in_bounds.0, c.requires.in_bounds.1)
-
-pub measure_table-offsets-requires-clause-in_bounds_2 : goal.measure_table-offsets-requires-clause-in_bounds_2
-measure_table-offsets-requires-clause-in_bounds_2 c = (c.requires.in_bounds.2, c.requires.in_bounds.3, c.requires.in_bounds_2.0)
-
 pub returns-then-foots-heads : goal.returns-then-foots-heads
 returns-then-foots-heads c = foot-refused c.requires.tabled c.count_sections-counts.ensures _ c.if-foots-heads.true
 
@@ -25,34 +19,19 @@ corners_on-corners-requires c = tabled-markable c.requires.tabled
 pub misaligned-requires : goal.misaligned-requires
 misaligned-requires c = let facts = tabled-facts c.requires.tabled in (facts.few_columns, facts.cols_room)
 
-pub returns-in-At : goal.returns-in-At
-returns-in-At c =
-    corner-refused c.requires.tabled c.count_sections-counts.ensures _ c.if-foots-heads.false c.corners_on-corners.ensures _ c.misaligned.ensures _ c.in-At.is
+pub returns-in-Some : goal.returns-in-Some
+returns-in-Some c =
+    corner-refused c.requires.tabled c.count_sections-counts.ensures _ c.if-foots-heads.false c.corners_on-corners.ensures _ c.misaligned.ensures _ c.in-Some.is
 
-pub draw_sized-requires-clause-planned : goal.draw_sized-requires-clause-planned
-draw_sized-requires-clause-planned c = table-planned c.requires.tabled c.measure_table-offsets.ensures c.count_sections-counts.ensures c.corners_on-corners.ensures
+pub invariant_of-plan : goal.invariant_of-plan
+invariant_of-plan c = record { planned = table-planned c.requires.tabled c.measure_table-offsets.ensures c.count_sections-counts.ensures c.corners_on-corners.ensures }
 
-pub draw_sized-requires-clause-origin_bound : goal.draw_sized-requires-clause-origin_bound
-draw_sized-requires-clause-origin_bound c = (origin-low c.requires.tabled, c.requires.in_bounds_2.1, c.requires.in_bounds_2.2)
+pub draw_sized-requires-clause-room : goal.draw_sized-requires-clause-room
+draw_sized-requires-clause-room c = (origin-low c.requires.tabled, c.requires.canvas_room.1, c.requires.canvas_room.2)
 
-pub draw_sized-requires-clause-fact : goal.draw_sized-requires-clause-fact
-draw_sized-requires-clause-fact c =
+pub draw_sized-requires-clause-sketched : goal.draw_sized-requires-clause-sketched
+draw_sized-requires-clause-sketched c =
     (_, table-sketched c.requires.tabled c.measure_table-offsets.ensures c.count_sections-counts.ensures c.corners_on-corners.ensures (table-headed c.requires.tabled c.count_sections-counts.ensures (drawing_lent [] [] []) c.if-foots-heads.false), table-texted c.requires.tabled c.measure_table-offsets.ensures c.count_sections-counts.ensures)
-
-pub shape_of-starts : goal.shape_of-starts
-shape_of-starts c = search c.measure_table-offsets.auto
-
-pub shape_of-ends : goal.shape_of-ends
-shape_of-ends c = search c.measure_table-offsets.auto
-
-pub shape_of-firsts : goal.shape_of-firsts
-shape_of-firsts c = search c.measure_table-offsets.auto
-
-pub shape_of-heights : goal.shape_of-heights
-shape_of-heights c = search c.measure_table-offsets.auto
-
-pub shape_of-wides : goal.shape_of-wides
-shape_of-wides c = search c.measure_table-offsets.auto
 
 pub returns : goal.returns
 returns c =

@@ -16,6 +16,8 @@ use Rattle.drawing.specs.Plain.{Canvas, canvas_height, drawn_line, canvas_lines}
 use Rattle.writer.specs.Writing.{Wrote, put_down}
 use Rattle.writer.proofs.WritingLaws.{wrote_none, wrote_then, wrote_as}
 use Rattle.cm.specs.Board.{Board, CanvasReady}
+use Rattle.cm.specs.Bears.{Ready}
+use Rattle.cm.specs.declared.board.Board.{Board as Bordered}
 use Rattle.cm.specs.Counted.{line_lengths, drawn_text, Counted}
 
 -- the first y lines of a drawing
@@ -31,16 +33,8 @@ first_lines-all : (o : ℕ) (v : Canvas) (y : ℕ) → y ≡ canvas_height v →
 unfolding canvas_lines
 first_lines-all o v y e = ap (first_lines o v) e
 
--- what a call asks of its arguments
-abbrev Asked : ℕ → ℕ → Board → List ℕ → ℕ → ℕ → Type 0
-Asked n width b canvas origin height = (v : Canvas) × CanvasReady v n width b canvas × (height ≡ canvas_height v) × (origin ≤ 255)
-
-module _ {n width : ℕ} {b : Board} {canvas : List ℕ} {origin height : ℕ} (G : Asked n width b canvas origin height) where
-  pub height-low : height ≤ 128
-  height-low = omega (arith, G.2, G.1.boxed.low)
-
-  pub line-asked : (y at : ℕ) → y < height → at ≤ 1073741824 → (v : Canvas) × CanvasReady v n width b canvas × (y < canvas_height v) × (origin ≤ 255) × (at ≤ 1073741824)
-  line-asked y at u w = (G.0, G.1, omega (arith, G.2), G.3, w)
+pub board-low : (d : Bordered) → Ready d → d.height ≤ 128
+board-low d (v, R, tall) = omega (arith, R.boxed.low)
 
 -- ---- counted
 pub record CountedTo (o : ℕ) (v : Canvas) (y : ℕ) (lengths : List ℕ) (bytes : ℕ) : Type 0 where

@@ -1,4 +1,6 @@
 -- The columns at which a text shows `|` or `+`, character by character.
+use Rattle.std.specs.Prelude.{Some}
+use Rattle.text.specs.declared.Character.{Character}
 use Prim.Native.Nat.{ℕ, zero, suc, ◌+◌, ◌-◌, ◌≤◌, ◌<◌}
 use mathlib.Core.Path.{◌≡◌, refl, sym, ap, ◌∙◌}
 use mathlib.Core.Bool.{Bool, true, false, ◌&&◌, ◌||◌, cond}
@@ -11,7 +13,6 @@ use lib.ListN.{length, get_or, drop, set, replicate, length-append, length-drop,
 use lib.Seq.{drop_at, drop-drop, get_or-drop, get_or-set_same, get_or-set_other}
 use borrow.Author.Tests.{eqb-true}
 use Rattle.seq.proofs.Tests.{le-or-lt, or_cases, bool-refused, cond-false}
-use Rattle.text.specs.declared.Decoded.TheVariants.{Character}
 use Rattle.text.specs.Characters.{plus, span}
 use Rattle.text.specs.Columns.{columns_from}
 use Rattle.text.specs.Utf8.{character, chars_from, char_indices, well_formed}
@@ -95,34 +96,34 @@ module _ {line : List ℕ} {first from i : ℕ} {before lines : List ℕ} {byte 
             (λ (k : z < from + n). s.done z u k ∙ ap (λ (t : Bool). cond t (i + 1) (get_or before z 0)) (and-swap (shows_at first line (z - from)) (eqb (get_or before z 0) i))) (le-or-lt (from + n) z);
       }
 
-  module _ (value size count : ℕ) (is : character (drop byte line) ≡ Character value size) (spans : count ≡ span (first + n) value) where
+  module _ (c : Character) (count : ℕ) (is : character (drop byte line) ≡ Some c) (spans : count ≡ span (first + n) c.value) where
     abbrev rest : List Glyph
-    rest = map (λ (s : Slot). s.glyph) (slots_from false (first + (n + count)) (chars_from (byte + size) 0 (drop (byte + size) line)))
+    rest = map (λ (s : Slot). s.glyph) (slots_from false (first + (n + count)) (chars_from (byte + c.size) 0 (drop (byte + c.size) line)))
 
-    here : drop n (text_glyphs first line) ≡ replicate count (glyph_of false value) ++ rest
+    here : drop n (text_glyphs first line) ≡ replicate count (glyph_of false c.value) ++ rest
     unfolding slots_from
     here =
         s.ahead
-        ∙ rw (chars-next line byte value size is, ← spans, add_assoc)
-        (map-append (λ (s : Slot). s.glyph) (replicate count (record { glyph = glyph_of false value; byte = byte })) _
-        ∙ ap (λ (l : List Glyph). l ++ rest) (map-replicate (λ (s : Slot). s.glyph) count (record { glyph = glyph_of false value; byte = byte })))
+        ∙ rw (chars-next line byte c is, ← spans, add_assoc)
+        (map-append (λ (s : Slot). s.glyph) (replicate count (record { glyph = glyph_of false c.value; byte = byte })) _
+        ∙ ap (λ (l : List Glyph). l ++ rest) (map-replicate (λ (s : Slot). s.glyph) count (record { glyph = glyph_of false c.value; byte = byte })))
 
-    glyph-here : (z : ℕ) → n ≤ z → z < n + count → get_or (text_glyphs first line) z Other ≡ glyph_of false value
+    glyph-here : (z : ℕ) → n ≤ z → z < n + count → get_or (text_glyphs first line) z Other ≡ glyph_of false c.value
     glyph-here z u w =
         let e : z ≡ n + (z - n) = omega arith in
         ap (λ (k : ℕ). get_or (text_glyphs first line) k Other) e ∙ sym (get_or-drop n (text_glyphs first line) (z - n) Other) ∙ ap (λ (l : List Glyph). get_or l (z - n) Other) here
-        ∙ get_or-append (replicate count (glyph_of false value)) rest Other (z - n) (omega (arith, length-replicate count (glyph_of false value))) ∙ get_or-replicate count (z - n) (glyph_of false value) Other (omega arith)
+        ∙ get_or-append (replicate count (glyph_of false c.value)) rest Other (z - n) (omega (arith, length-replicate count (glyph_of false c.value))) ∙ get_or-replicate count (z - n) (glyph_of false c.value) Other (omega arith)
 
-    pub hit-next : (shown : Bool) (more : ℕ) → from + n < 128 → shown ≡ vertical (glyph_of false value) → more ≡ cond (shown && eqb (get_or lines (from + n) 0) i) (i + 1) (get_or lines (from + n) 0)
-        → HitSoFar line first from i before (set lines (from + n) more) (byte + size) (n + count)
+    pub hit-next : (shown : Bool) (more : ℕ) → from + n < 128 → shown ≡ vertical (glyph_of false c.value) → more ≡ cond (shown && eqb (get_or lines (from + n) 0) i) (i + 1) (get_or lines (from + n) 0)
+        → HitSoFar line first from i before (set lines (from + n) more) (byte + c.size) (n + count)
     hit-next shown more low show is-more =
         record {
-          walked = walked_next line first byte n s.walked value size count is spans;
+          walked = walked_next line first byte n s.walked c count is spans;
           room = length-set lines (from + n) more ∙ s.room;
           inside =
               let e : length (drop n (text_glyphs first line)) ≡ count + length rest = ap length here ∙ simp (length-append, length-replicate) in
               omega (arith, length-drop n (text_glyphs first line), s.inside);
-          ahead = sym (drop-drop count n (text_glyphs first line)) ∙ ap (drop count) here ∙ drop_at (replicate count (glyph_of false value)) rest count (length-replicate count (glyph_of false value));
+          ahead = sym (drop-drop count n (text_glyphs first line)) ∙ ap (drop count) here ∙ drop_at (replicate count (glyph_of false c.value)) rest count (length-replicate count (glyph_of false c.value));
           lower = λ z u. get_or-set_other lines (from + n) z more 0 (λ e. omega arith) ∙ s.lower z u;
           done = λ z u w. ⊎_elim (λ (k : from + n ≤ z). new z k w) (λ (k : z < from + n). get_or-set_other lines (from + n) z more 0 (λ e. omega arith) ∙ s.done z u k) (le-or-lt (from + n) z);
           upper = λ z u. ⊎_elim (λ (e : from + n ≡ z). none z (sym e) (omega arith)) (λ (k : from + n < z). get_or-set_other lines (from + n) z more 0 (λ e. omega arith) ∙ s.upper z (omega arith)) (eq-or-lt_of_le (omega arith));
@@ -138,7 +139,7 @@ module _ {line : List ℕ} {first from i : ℕ} {before lines : List ℕ} {byte 
 
           -- a character of another number of columns than one shows nothing
           hidden : (count ≡ 1 → ⊥) → shown ≡ false
-          hidden h = bool-refused shown (λ e. h (spans ∙ vertical-one (first + n) value (sym show ∙ e)))
+          hidden h = bool-refused shown (λ e. h (spans ∙ vertical-one (first + n) c.value (sym show ∙ e)))
 
           new : (z : ℕ) → from + n ≤ z → z < from + (n + count)
               → get_or (set lines (from + n) more) z 0 ≡ cond (shows_at first line (z - from) && eqb (get_or before z 0) i) (i + 1) (get_or before z 0)

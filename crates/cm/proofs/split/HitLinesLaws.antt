@@ -15,21 +15,23 @@ use Rattle.text.specs.Columns.{columns_from}
 use Rattle.text.specs.Utf8.{char_indices, well_formed}
 use Rattle.text.specs.Lines.{no_text}
 use Rattle.drawing.specs.Plain.{Box}
-use Rattle.cm.specs.Board.{lines_at, Lettered}
+use Rattle.cm.specs.Board.{lines_at}
+use Rattle.cm.specs.Bears.{LettersOf}
+use Rattle.cm.specs.declared.lettering.Lettering.{Lettering}
 use Rattle.cm.specs.Hits.{shows_at, Hit, Hittable, HitLines}
 
 -- on every list of boxes that the arrays hold
-abbrev pub Counting : (text starts ends firsts heights : List ℕ) → (column from k i : ℕ) → List ℕ → Type 0
-Counting text starts ends firsts heights column from k i hits =
-    (bs : List Box) → Lettered bs text starts ends firsts heights → k < length bs → HitLines column (lines_at bs k) from i hits
+abbrev pub Counting : Lettering → (column from k i : ℕ) → List ℕ → Type 0
+Counting l column from k i hits =
+    (bs : List Box) → LettersOf l bs → k < length bs → HitLines column (lines_at bs k) from i hits
 
 pub zeros-at : (n z : ℕ) → ◌≡◌ {A = ℕ} (get_or (replicate n 0) z 0) 0
 zeros-at zero z = refl
 zeros-at (suc n) zero = refl
 zeros-at (suc n) (suc z) = zeros-at n z
 
-module _ {text starts ends firsts heights : List ℕ} {column from k : ℕ} where
-  pub hits-none : Counting text starts ends firsts heights column from k 0 (replicate 128 0)
+module _ (l : Lettering) {column from k : ℕ} where
+  pub hits-none : Counting l column from k 0 (replicate 128 0)
   unfolding all range
   hits-none bs L u =
       record {
@@ -38,10 +40,6 @@ module _ {text starts ends firsts heights : List ℕ} {column from k : ℕ} wher
         left = λ z w. zeros-at 128 z;
         right = λ z w x. rw (zeros-at 128 z) refl;
       }
-
-  pub hits-all : (i count : ℕ) (hits : List ℕ) → i ≤ count → count ≤ i → Counting text starts ends firsts heights column from k i hits
-      → Counting text starts ends firsts heights column from k count hits
-  hits-all i count hits u w s = let e : i ≡ count = omega arith in rw (← e) s
 
 -- one more line
 module _ (h i : ℕ) (few : h ≤ i) (shown : Bool) where
@@ -57,9 +55,9 @@ module _ (h i : ℕ) (few : h ≤ i) (shown : Bool) where
     go true = eq-eqb (i + 1) (i + 1) refl
     go false = ne_eqb h (i + 1) (λ e. omega arith)
 
-module _ {text starts ends firsts heights : List ℕ} {column from k i : ℕ} {hits : List ℕ} (s : Counting text starts ends firsts heights column from k i hits)
-    (line : List ℕ) (told : (bs : List Box) → Lettered bs text starts ends firsts heights → k < length bs → line ≡ get_or (lines_at bs k) i no_text) where
-  pub hits_next : (hits' : List ℕ) → Hit column line from i hits hits' → Counting text starts ends firsts heights column from k (i + 1) hits'
+module _ (l : Lettering) {column from k i : ℕ} {hits : List ℕ} (s : Counting l column from k i hits)
+    (line : List ℕ) (told : (bs : List Box) → LettersOf l bs → k < length bs → line ≡ get_or (lines_at bs k) i no_text) where
+  pub hits_next : (hits' : List ℕ) → Hit column line from i hits hits' → Counting l column from k (i + 1) hits'
   hits_next hits' h bs L u =
       let t = s bs L u in
       record {
@@ -79,7 +77,7 @@ module _ {text starts ends firsts heights : List ℕ} {column from k i : ℕ} {h
             ⊎_elim (λ (x : from ≤ z). omega (arith, h.right z x w, counted-few (get_or hits z 0) i (t.few z) (shows_at column line (z - from))))
             (λ (x : z < from). omega (arith, h.left z x, t.few z)) (le-or-lt from z)) (le-or-lt 128 z)
 
-  module _ (G : (bs : List Box) × Lettered bs text starts ends firsts heights × (k < length bs) × Hittable column from (lines_at bs k)) where
+  module _ (G : (bs : List Box) × LettersOf l bs × (k < length bs) × Hittable column from (lines_at bs k)) where
     pub line-short : length line ≤ 512
     line-short = rw (told G.0 G.1 G.2) (G.3.short i)
 

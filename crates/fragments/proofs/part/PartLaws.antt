@@ -10,13 +10,13 @@ use Rattle.text.specs.declared.ByteAt.{ByteAt}
 use Rattle.text.specs.declared.Column.{Column}
 use Rattle.grid.specs.Cut.{cut}
 use Rattle.grid.specs.CutCall.{cut_numbers}
-use Rattle.fragments.specs.declared.part.Start.{Start}
+use Rattle.fragments.specs.declared.part.Place.{Place}
 use Rattle.fragments.specs.Part.{Checked, Begins, Pieced}
 
 -- trimmed, then cut at its first byte
 pub cut-pieced : (text : List ℕ) (column : Column) (start end : ByteAt) (left : Column) → Checked text column start end left
     → (trimmed : List ℕ) → trimmed ≡ trim_end (take (end.0 - start.0) (drop start.0 text))
-    → (begun : Start) → Begins trimmed start (record { 0 = column.0 + left.0 + 1 }) begun
+    → (begun : Place) → Begins trimmed (record { byte = start; column = record { 0 = column.0 + left.0 + 1 } }) begun
     → Pieced text column start end left (record { start = begun.byte; end = record { 0 = start.0 + length trimmed }; column = begun.column })
 unfolding cut cut_numbers
 cut-pieced text column start end left c trimmed told begun begins =

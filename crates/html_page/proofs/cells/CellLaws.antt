@@ -1,19 +1,19 @@
--- A cell on the page: its attributes (`span_none`, `span-written`, `left-written` and its like), its tag by its row's section (`in_head`,
--- `in_body`), and the whole (`cell-written`).
+-- A cell on the page: its attributes (`span_none`, `span-written`, `attributes-written`), and the whole (`cell-written`).
 use Prim.Native.Nat.{ℕ, ◌+◌, ◌-◌, ◌*◌, ◌/◌, ◌≤◌, ◌<◌}
 use mathlib.Core.Path.{◌≡◌, ap}
-use mathlib.Core.Bool.{Bool, true, false, cond}
+use mathlib.Core.Bool.{cond}
 use mathlib.Core.List.{List, [], ◌++◌, append_assoc, append-nil, flat_map}
 use native.Mathlib.Omega.{arith}
-use lib.Dec.{eqb, ltb}
+use lib.Dec.{ltb}
 use lib.ListN.{length, get_or, take, drop, length-take, length-drop}
-use borrow.Author.Tests.{eq-eqb, ne_eqb, lt-ltb, le-ltb}
+use borrow.Author.Tests.{lt-ltb, le-ltb}
 use Rattle.seq.specs.Ascii.{ascii}
 use Rattle.seq.specs.Decimal.{decimal}
 use Rattle.grid.specs.Values.{GridTableColumn}
-use Rattle.grid.specs.Flat.{code_alignment, code_section}
+use Rattle.grid.specs.Flat.{code_alignment}
+use Rattle.grid.specs.declared.TableAlignment.{TableAlignment}
 use Rattle.grid.specs.declared.TableAlignment.TheVariants.{None}
-use Rattle.grid.specs.declared.GridTableSection.TheVariants.{Body, Foot}
+use Rattle.grid.specs.declared.GridTableSection.{GridTableSection}
 use Rattle.html.specs.Page.{new_line, span_attribute, align_attribute, cell_tag, closing, cell_page}
 use Rattle.representation.proofs.TableInLaws.{columns-at}
 use Rattle.writer.specs.Writing.{Wrote}
@@ -28,48 +28,25 @@ pub span-written : {d e f g : List ℕ} {at named end r : ℕ} (name : List ℕ)
     → Wrote e named (decimal span) f end → Wrote f end (ascii "\"") g r → Wrote d at (cond (ltb 1 span) (name ++ decimal span ++ ascii "\"") []) g r
 span-written name span h p q w = rw (lt-ltb 1 span h) (wrote_then (wrote_then p q) w)
 
-module _ {d e : List ℕ} {at r : ℕ} (code : ℕ) where
-  pub left-written : code ≡ 1 → Wrote d at (ascii " align=\"left\"") e r → Wrote d at (align_attribute (code_alignment code)) e r
-  left-written h p = rw (eq-eqb code 1 h) p
-
-  pub right-written : (code ≡ 1 → ⊥) → code ≡ 2 → Wrote d at (ascii " align=\"right\"") e r → Wrote d at (align_attribute (code_alignment code)) e r
-  right-written g h p = rw (ne_eqb code 1 g, eq-eqb code 2 h) p
-
-  pub center-written : (code ≡ 1 → ⊥) → (code ≡ 2 → ⊥) → code ≡ 3 → Wrote d at (ascii " align=\"center\"") e r → Wrote d at (align_attribute (code_alignment code)) e r
-  center-written f g h p = rw (ne_eqb code 1 f, ne_eqb code 2 g, eq-eqb code 3 h) p
-
-pub align_attribute-none : (d : List ℕ) (at code : ℕ) → (code ≡ 1 → ⊥) → (code ≡ 2 → ⊥) → (code ≡ 3 → ⊥) → Wrote d at (align_attribute (code_alignment code)) d at
-align_attribute-none d at code f g h = rw (ne_eqb code 1 f, ne_eqb code 2 g, ne_eqb code 3 h) (wrote_none d at)
-
-pub attributes-written : {d e f g i : List ℕ} {at across down end r : ℕ} (colspan rowspan code : ℕ) → Wrote d at (span_attribute (ascii "colspan") colspan) e across
-    → Wrote e across (span_attribute (ascii "rowspan") rowspan) f down → Wrote f down (align_attribute (code_alignment code)) g end → Wrote g end (ascii ">") i r
-    → Wrote d at (span_attribute (ascii "colspan") colspan ++ span_attribute (ascii "rowspan") rowspan ++ align_attribute (code_alignment code) ++ ascii ">") i r
-attributes-written colspan rowspan code p q u w = wrote_then (wrote_then (wrote_then p q) u) w
-
--- ---- tags, by the section of the cell's row
-module _ (around : List ℕ → List ℕ) (d e : List ℕ) (at r section : ℕ) where
-  pub in_head : section ≡ 0 → Wrote d at (around (ascii "th")) e r → Wrote d at (around (cell_tag (code_section section))) e r
-  in_head h p = rw (eq-eqb section 0 h) p
-
-  pub in_body : (section ≡ 0 → ⊥) → Wrote d at (around (ascii "td")) e r → Wrote d at (around (cell_tag (code_section section))) e r
-  in_body h p = rw (ne_eqb section 0 h) (go (eqb section 2)) where
-    go : (foot : Bool) → Wrote d at (around (cell_tag (cond foot Foot Body))) e r
-    go true = p
-    go false = p
+pub attributes-written : {d e f g i : List ℕ} {at across down end r : ℕ} (colspan rowspan : ℕ) (alignment : TableAlignment)
+    → Wrote d at (span_attribute (ascii "colspan") colspan) e across → Wrote e across (span_attribute (ascii "rowspan") rowspan) f down
+    → Wrote f down (align_attribute alignment) g end → Wrote g end (ascii ">") i r
+    → Wrote d at (span_attribute (ascii "colspan") colspan ++ span_attribute (ascii "rowspan") rowspan ++ align_attribute alignment ++ ascii ">") i r
+attributes-written colspan rowspan alignment p q u w = wrote_then (wrote_then (wrote_then p q) u) w
 
 -- ---- the whole cell
-module _ {cols cells inner : List ℕ} {k from : ℕ} (G : CellGiven cols cells inner k from) (section : ℕ) where
+module _ {cols cells inner : List ℕ} {k from : ℕ} (G : CellGiven cols cells inner k from) (section : GridTableSection) where
   abbrev aligned : ℕ
   aligned = get_or cols (2 * get_or cells (5 * k + 1) 0) 0
 
   aligned_at : (get_or (columns_in cols) (get_or cells (5 * k + 1) 0) (record { alignment = None; width = 0 })).alignment ≡ code_alignment aligned
   aligned_at = ap (λ (c : GridTableColumn). c.alignment) (columns-at (length cols / 2) cols (get_or cells (5 * k + 1) 0) _ G.column)
 
-  pub cell-written : {d e f g i : List ℕ} {at opened tagged end r : ℕ} → Wrote d at (new_line ++ ascii "<" ++ cell_tag (code_section section)) e opened
+  pub cell-written : {d e f g i : List ℕ} {at opened tagged end r : ℕ} → Wrote d at (new_line ++ ascii "<" ++ cell_tag section) e opened
       → Wrote e opened
       (span_attribute (ascii "colspan") (get_or cells (5 * k + 2) 0) ++ span_attribute (ascii "rowspan") (get_or cells (5 * k + 3) 0) ++ align_attribute (code_alignment aligned) ++ ascii ">") f tagged
-      → Wrote f tagged (take (from + get_or cells (5 * k + 4) 0 - from) (drop from inner)) g end → Wrote g end (closing (cell_tag (code_section section))) i r
-      → Wrote d at (cell_page (columns_in cols) (code_section section) (cell_at cells inner k from)) i r
+      → Wrote f tagged (take (from + get_or cells (5 * k + 4) 0 - from) (drop from inner)) g end → Wrote g end (closing (cell_tag section)) i r
+      → Wrote d at (cell_page (columns_in cols) section (cell_at cells inner k from)) i r
   unfolding cell_page flat_map
   cell-written p q u w =
       let size : from + get_or cells (5 * k + 4) 0 - from ≡ get_or cells (5 * k + 4) 0 = omega arith in
@@ -81,9 +58,6 @@ module _ {cols cells inner : List ℕ} {k from : ℕ} (G : CellGiven cols cells 
       (p : Wrote f tagged (take (from + get_or cells (5 * k + 4) 0 - from) (drop from inner)) g end) where
     inner-near : end ≤ at + 32872
     inner-near = omega (arith, G.small, p.next, length-take (from + get_or cells (5 * k + 4) 0 - from) (drop from inner), length-drop from inner)
-
-    pub inner-low : at ≤ 536870912 → end ≤ 2147483648
-    inner-low h = omega (arith, inner-near)
 
     pub cell-near : {r : ℕ} → r ≤ end + 5 → r ≤ at + 65536
     cell-near h = omega (arith, inner-near)

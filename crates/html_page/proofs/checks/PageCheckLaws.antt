@@ -6,12 +6,12 @@ use mathlib.Core.List.{List, [], ◌∷◌}
 use native.Mathlib.Omega.{arith}
 use lib.Dec.{eqb, ltb}
 use lib.ListN.{length, get_or, length-map}
-use borrow.Author.Tests.{eqb-true, not-true, not-false, ltb-false}
+use borrow.Author.Tests.{eqb-true, eq-eqb, ne_eqb, not-false, ltb-false}
 use Rattle.seq.specs.Lists.{sum, all, neighbours}
-use Rattle.seq.proofs.Tests.{and_assoc, both_true, or-neither}
+use Rattle.seq.proofs.Tests.{and_assoc, both_true, and-false, or-neither}
 use Rattle.seq.proofs.Positions.{get_or-mem}
 use Rattle.seq.proofs.Sorted.{sorted_tail}
-use Rattle.grid.specs.Answer.{refuse}
+use Rattle.grid.specs.Answer.{Answer, refuse}
 use Rattle.grid.specs.Values.{TableCell, Table}
 use Rattle.grid.specs.Flat.{code_section, columns_of_array, every_nth, length_is}
 use Rattle.drawing.specs.GridRules.{comes_before, keeps_rules}
@@ -23,44 +23,52 @@ use Rattle.representation.specs.TableIn.{counts_in, no_cell}
 use Rattle.representation.proofs.TableInLaws.{columns-length, cells-length, cells_at}
 use Rattle.table_checks.specs.Entries.{entries}
 use Rattle.table_checks.specs.Places.{places_of, grid_in, CellsPlaced}
-use Rattle.table_checks.specs.Checks.{after_checks}
-use Rattle.table_checks.specs.declared.Checked.{Checked}
-use Rattle.table_checks.specs.declared.Checked.TheVariants.{Fine, Refused}
-use Rattle.table_checks.proofs.CheckLaws.{not-fine}
 use Rattle.table_checks.proofs.PlaceLaws.{rules-agree}
 use Rattle.table_checks.proofs.arrays.ArrayLaws.{sized-agree}
 use Rattle.table_checks.proofs.cover.SquareLaws.{later_rows}
 use Rattle.html_page.specs.Paged.{Paged}
-use Rattle.html_page.specs.Call.{sizes, arrays, page_within}
+use Rattle.html_page.specs.Call.{page_within}
 use Rattle.html_page.proofs.PageCellLaws.{page_cells-length, page_cells-places}
 
 -- ---- 13
-module _ (columns rows n bytes : ℕ) (cols sections cells inner : List ℕ) {a : Bool}
-    (told : a ≡ length_is cols (2 * columns) && length_is sections rows && length_is cells (5 * n)) where
-  abbrev contradicting : Bool
-  contradicting = page_contradicts (sizes columns rows n bytes) (arrays cols sections cells inner)
+module _ (s : PageSizes) (t : PageArrays) where
+  -- the sizes of the arrays that a table has as well
+  abbrev shaped : Bool
+  shaped = length_is t.columns (2 * s.columns) && length_is t.sections s.rows && length_is t.cells (5 * s.cells)
 
-  pub wrong-sizes : not (a && eqb (length inner) bytes) ≡ true → true ≡ contradicting
+  pub unshaped : shaped ≡ false → true ≡ page_contradicts s t
   unfolding page_contradicts
-  wrong-sizes e = rw (← told, not-true (a && eqb (length inner) bytes) e)
+  unshaped e = rw e
 
-  module _ (fit : not (a && eqb (length inner) bytes) ≡ false) where
-    sizes-agree : (length cols ≡ 2 * columns) × (length sections ≡ rows) × (length cells ≡ 5 * n)
-    sizes-agree = sized-agree columns rows n cols sections cells (sym told ∙ (both_true a (eqb (length inner) bytes) (not-false _ fit)).0)
+  pub bytes-wrong : (length t.inner ≡ s.bytes → ⊥) → true ≡ page_contradicts s t
+  unfolding page_contradicts
+  bytes-wrong e = rw (ne_eqb (length t.inner) s.bytes e, and-false shaped)
 
-    pub cols-room : length cols ≡ 2 * columns
-    cols-room = sizes-agree.0
+  module _ (sized : shaped ≡ true) (b : length t.inner ≡ s.bytes) where
+    pub columns-room : length t.columns ≡ 2 * s.columns
+    columns-room = (sized-agree s.columns s.rows s.cells t.columns t.sections t.cells sized).0
 
-    pub cells-room : 5 * n ≤ length cells
-    cells-room = omega (arith, sizes-agree.2)
+    pub cells-room : 5 * s.cells ≤ length t.cells
+    cells-room = omega (arith, (sized-agree s.columns s.rows s.cells t.columns t.sections t.cells sized).2)
 
-    pub sum-and-codes : (b d : Bool) → b ≡ eqb (sum (entries 4 5 n cells)) bytes
-        → d ≡ all (λ code. ltb code 4) (every_nth 2 columns cols) && all (λ code. ltb code 3) sections → not (b && d) ≡ contradicting
+    abbrev filled : Bool
+    filled = eqb (sum (entries 4 5 s.cells t.cells)) s.bytes
+
+    abbrev coded : Bool
+    coded = all (λ code. ltb code 4) (every_nth 2 s.columns t.columns) && all (λ code. ltb code 3) t.sections
+
+    apart : page_contradicts s t ≡ not (filled && coded)
     unfolding page_contradicts
-    sum-and-codes b d e f =
-        let p = all (λ code. ltb code 4) (every_nth 2 columns cols) in
-        let q = all (λ code. ltb code 3) sections in
-        rw (← told, not-false (a && eqb (length inner) bytes) fit, e, f) (ap not (sym (and_assoc (eqb (sum (entries 4 5 n cells)) bytes) p q)))
+    apart =
+        let p = all (λ code. ltb code 4) (every_nth 2 s.columns t.columns) in
+        let q = all (λ code. ltb code 3) t.sections in
+        rw (sized, eq-eqb (length t.inner) s.bytes b) (ap not (and_assoc (eqb (sum (entries 4 5 s.cells t.cells)) s.bytes) p q))
+
+    pub unfilled : false ≡ filled → true ≡ page_contradicts s t
+    unfilled e = sym (apart ∙ rw (← e))
+
+    pub codes-left : true ≡ filled → {c : Bool} → c ≡ coded → not c ≡ page_contradicts s t
+    codes-left e g = sym (apart ∙ rw (← e, ← g))
 
 -- arrays without a contradiction
 record Agreed (s : PageSizes) (t : PageArrays) : Type 0 where
@@ -92,14 +100,12 @@ agreed s t e =
     }
 
 -- ---- 2
-pub large-told : (columns rows n bytes : ℕ) (cols : List ℕ) {a : Bool}
-    → ((t : Table) → t.columns ≡ columns_of_array columns cols → length t.sections ≡ rows → length t.cells ≡ n → a ≡ shape_too_large t)
-    → (sections cells inner : List ℕ) → length sections ≡ rows
-    → a || ltb 32768 bytes ≡ page_too_large (sizes columns rows n bytes) (page_table (sizes columns rows n bytes) (arrays cols sections cells inner))
+pub large-told : (s : PageSizes) (t : PageArrays) {a : Bool}
+    → ((u : Table) → u.columns ≡ columns_of_array s.columns t.columns → length u.sections ≡ length t.sections → length u.cells ≡ s.cells → a ≡ shape_too_large u)
+    → a || ltb 32768 s.bytes ≡ page_too_large s (page_table s t)
 unfolding page_too_large page_table
-large-told columns rows n bytes cols told sections cells inner e =
-    let t = page_table (sizes columns rows n bytes) (arrays cols sections cells inner) in
-    ap (λ shape. shape || ltb 32768 bytes) (told t refl (length-map sections code_section ∙ e) (page_cells-length n cells inner))
+large-told s t told =
+    ap (λ shape. shape || ltb 32768 s.bytes) (told (page_table s t) refl (length-map t.sections code_section) (page_cells-length s.cells t.cells t.inner))
 
 -- ---- 8: rows rise with the cells
 rows-rise : (l : List TableCell) → neighbours comes_before l ≡ true → (i j : ℕ) → i ≤ j → j < length l → (get_or l i no_cell).row ≤ (get_or l j no_cell).row
@@ -117,14 +123,8 @@ module _ (s : PageSizes) (t : PageArrays) where
   abbrev grid : Table
   grid = grid_in s.columns s.cells t.sections t.cells
 
-  -- what the contract says of the result
-  abbrev Told : Checked → Type 0
-  Told r =
-      ((widths : Bool) (out : List ℕ) → after_checks r (page_within widths table out) ≡ page_accepts widths s t out)
-      × (r ≡ Fine → Paged s.columns s.cells t.columns t.sections t.cells t.inner)
-
-  refusal : {number place : ℕ} → ((widths : Bool) (out : List ℕ) → refuse number place ≡ page_accepts widths s t out) → Told (Refused number place)
-  refusal e = (e, λ f. absurd (not-fine f))
+  abbrev Answers : Answer (List ℕ) → Bool → List ℕ → Type 0
+  Answers r widths out = r ≡ page_accepts widths s t out
 
   rules-told : keeps_rules table ≡ keeps_rules grid
   unfolding page_table
@@ -133,9 +133,9 @@ module _ (s : PageSizes) (t : PageArrays) where
       (page_cells-places s.cells t.cells t.inner)
 
   module _ {a : Bool} (a-told : a ≡ page_contradicts s t) where
-    pub check_page-contradicted : a ≡ true → Told (Refused 13 0)
+    pub check_page-contradicted : a ≡ true → (widths : Bool) (out : List ℕ) → Answers (refuse 13 0) widths out
     unfolding page_accepts
-    check_page-contradicted e = refusal (λ widths out. rw (← a-told, e))
+    check_page-contradicted e widths out = rw (← a-told, e)
 
     module _ (fit : a ≡ false) where
       all-agreed : Agreed s t
@@ -152,18 +152,14 @@ module _ (s : PageSizes) (t : PageArrays) where
             b-told table (columns-length s.columns t.columns) (length-map t.sections code_section ∙ all-agreed.rows_agree)
             (page_cells-length s.cells t.cells t.inner)
 
-        pub check_page-empty : b ≡ true → Told (Refused 1 0)
+        pub check_page-empty : b ≡ true → (widths : Bool) (out : List ℕ) → Answers (refuse 1 0) widths out
         unfolding page_accepts page_bytes
-        check_page-empty e = refusal (λ widths out. rw (← a-told, fit, ← is-empty, e))
+        check_page-empty e widths out = rw (← a-told, fit, ← is-empty, e)
 
-        module _ (some : b ≡ false) {l : Bool}
-            (l-told : (sections cells inner : List ℕ) → length sections ≡ s.rows → l ≡ page_too_large s (page_table s (arrays t.columns sections cells inner))) where
-          is-large : l ≡ page_too_large s table
-          is-large = l-told t.sections t.cells t.inner all-agreed.rows_agree
-
-          pub check_page-large : l ≡ true → Told (Refused 2 0)
+        module _ (some : b ≡ false) {l : Bool} (is-large : l ≡ page_too_large s table) where
+          pub check_page-large : l ≡ true → (widths : Bool) (out : List ℕ) → Answers (refuse 2 0) widths out
           unfolding page_accepts page_bytes
-          check_page-large e = refusal (λ widths out. rw (← a-told, fit, ← is-empty, some, ← is-large, e))
+          check_page-large e widths out = rw (← a-told, fit, ← is-empty, some, ← is-large, e)
 
           module _ (small : l ≡ false) where
             limits : (s.columns ≤ 127) × (length t.sections ≤ 127) × (s.cells ≤ 1024) × (s.bytes ≤ 32768)
@@ -181,16 +177,16 @@ module _ (s : PageSizes) (t : PageArrays) where
             check_page-placed = record { cells_room = all-agreed.cells_room; narrow = limits.0; low = limits.1; codes = all-agreed.section_codes }
 
             module _ {k : Bool} (k-told : k ≡ keeps_rules grid) where
-              pub check_page-broken : not k ≡ true → Told (Refused 8 0)
+              pub check_page-broken : not k ≡ true → (widths : Bool) (out : List ℕ) → Answers (refuse 8 0) widths out
               unfolding page_accepts page_bytes
-              check_page-broken e = refusal (λ widths out. rw (← a-told, fit, ← is-empty, some, ← is-large, small, rules-told, ← k-told, e))
+              check_page-broken e widths out = rw (← a-told, fit, ← is-empty, some, ← is-large, small, rules-told, ← k-told, e)
 
-              pub check_page-kept : not k ≡ false → Told Fine
+              pub check_page-kept : not k ≡ false → (widths : Bool) (out : List ℕ) → Answers (page_within widths table out) widths out
               unfolding page_accepts page_bytes page_within
-              check_page-kept e = (
-                (λ widths out. sym (rw (← a-told, fit, ← is-empty, some, ← is-large, small, rules-told, ← k-told, e) refl)),
-                (λ f. paged),
-              ) where
+              check_page-kept e widths out = sym (rw (← a-told, fit, ← is-empty, some, ← is-large, small, rules-told, ← k-told, e) refl)
+
+              pub check_page-paged : not k ≡ false → Paged s.columns s.cells t.columns t.sections t.cells t.inner
+              check_page-paged e = paged where
                 facts : Kept grid
                 facts = keeps_rules-kept grid (sym k-told ∙ not-false k e)
 

@@ -1,14 +1,13 @@
--- The tags around a row: whether it is its section's first or last (`first-opens`, `row_opens`, `last-closes`, `row_closes`), its section's
--- tags (`head-tag`, `foot-tag`, `body-tag`), and what stands before its cells (`row_opened`, `section-opened`) and after them
--- (`row-closed`, `section-closed`).
-use Prim.Native.Nat.{ℕ, zero, suc, ◌+◌, ◌-◌, ◌≤◌, ◌<◌}
+-- The tags around a row: whether it is its section's first or last (`row_opens`, `row_closes`), and what stands before its cells
+-- (`row_opened`, `section-opened`) and after them (`row-closed`, `section-closed`).
+use Prim.Native.Nat.{ℕ, zero, suc, ◌+◌, ◌-◌, ◌<◌}
 use mathlib.Core.Path.{◌≡◌, refl, ap}
 use mathlib.Core.Bool.{Bool, true, false, not}
 use mathlib.Core.List.{List, ◌++◌, map}
 use native.Mathlib.Omega.{arith}
 use lib.Dec.{eqb, ltb}
 use lib.ListN.{length, get_or, length-map}
-use borrow.Author.Tests.{eq-eqb, ne_eqb, lt-ltb, le-ltb, not-true, not-false}
+use borrow.Author.Tests.{lt-ltb, not-true, not-false}
 use Rattle.seq.specs.Ascii.{ascii}
 use Rattle.seq.specs.Lists.{all}
 use Rattle.seq.proofs.Positions.{get_d_map}
@@ -21,23 +20,7 @@ use Rattle.table_checks.proofs.rules.SectionLaws.{same_rows}
 use Rattle.writer.specs.Writing.{Wrote}
 use Rattle.writer.proofs.WritingLaws.{wrote_then}
 
--- ---- a section's tags
-module _ (around : List ℕ → List ℕ) (d e : List ℕ) (at r section : ℕ) where
-  pub head-tag : section ≡ 0 → Wrote d at (around (ascii "thead")) e r → Wrote d at (around (section_tag (code_section section))) e r
-  head-tag h p = rw (eq-eqb section 0 h) p
-
-  module _ (g : section ≡ 0 → ⊥) where
-    pub foot-tag : section ≡ 2 → Wrote d at (around (ascii "tfoot")) e r → Wrote d at (around (section_tag (code_section section))) e r
-    foot-tag h p = rw (ne_eqb section 0 g, eq-eqb section 2 h) p
-
-    pub body-tag : (section ≡ 2 → ⊥) → Wrote d at (around (ascii "tbody")) e r → Wrote d at (around (section_tag (code_section section))) e r
-    body-tag h p = rw (ne_eqb section 0 g, ne_eqb section 2 h) p
-
 -- ---- first and last rows
-pub first-opens : (row : ℕ) → row ≡ 0 → (t : Table) → true ≡ opens_section t row
-first-opens zero h t = refl
-first-opens (suc row) h t = absurd (omega arith)
-
 module _ (sections : List ℕ) (known : all (λ code. ltb code 3) sections ≡ true) (t : Table) (same : t.sections ≡ map code_section sections) where
   same-section : (i j : ℕ) → i < length sections → j < length sections → same_section (section_of t i) (section_of t j) ≡ eqb (get_or sections i 0) (get_or sections j 0)
   same-section i j u w = rw same (same_rows sections known i j u w)
@@ -48,11 +31,6 @@ module _ (sections : List ℕ) (known : all (λ code. ltb code 3) sections ≡ t
       let before : suc row - 1 ≡ row = omega arith in
       let here : row + 1 ≡ suc row = omega arith in
       rw (before, same-section row (row + 1) (omega arith) (omega arith), here) refl
-
-  pub last-closes : (row : ℕ) → length sections ≤ row + 1 → true ≡ closes_section t row
-  last-closes row h =
-      let past : length t.sections ≤ row + 1 = omega (arith, ap length same, length-map sections code_section) in
-      rw (le-ltb (row + 1) (length t.sections) past) refl
 
   pub row_closes : (row : ℕ) → row + 1 < length sections → not (eqb (get_or sections row 0) (get_or sections (row + 1) 0)) ≡ closes_section t row
   row_closes row h =

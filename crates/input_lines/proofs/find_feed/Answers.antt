@@ -12,4 +12,4 @@ pub loop-i-preserved : goal.loop-i-preserved
 loop-i-preserved c = search (rules, feed-later)
 
 pub returns : goal.returns
-returns c = search feed-none
+returns c = search (rules, feed-none)

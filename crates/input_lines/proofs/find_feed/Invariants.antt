@@ -8,6 +8,3 @@ use Rattle.input_lines.proofs.find_feed.Given as goal
 
 abbrev pub invariant-loop-i : goal.invariant-loop-i
 invariant-loop-i l = (l.from ≤ l.i) × (l.i ≤ length l.input) × (split_lines (drop l.from l.input) ≡ onto (take (l.i - l.from) (drop l.from l.input)) (split_lines (drop l.i l.input)))
-
-abbrev pub decreases-loop-i : goal.decreases-loop-i
-decreases-loop-i l = length l.input - l.i

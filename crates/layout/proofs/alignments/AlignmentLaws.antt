@@ -8,9 +8,12 @@ use lib.Dec.{eqb}
 use native.Mathlib.Nat.{le_of_lt}
 use lib.ListN.{length, take, drop, get_or, drop_of_length-le}
 use borrow.Author.Tests.{eq-eqb, ne_eqb}
+use Rattle.std.specs.List.{slice_range}
 use Rattle.seq.specs.Lists.{last_or}
 use Rattle.seq.proofs.ListsLaws.{part_to_end}
 use Rattle.text.specs.Characters.{plus, colon}
+use Rattle.grid.specs.declared.TableAlignment.{TableAlignment}
+use Rattle.grid.specs.declared.TableAlignment.TheVariants.{None, Left, Right, Center}
 use Rattle.text.specs.Rule.{to_plus}
 use Rattle.grid.specs.Slots.{Pipe, Dash, Other, is_plus}
 use Rattle.grid.specs.Layout.{segment_alignment}
@@ -26,22 +29,22 @@ last-at (a ∷ []) d filled = refl
 last-at (a ∷ b ∷ s) d filled =
     let e : length (a ∷ b ∷ s) - 1 ≡ suc (length (b ∷ s) - 1) = omega arith in rw e (last-at (b ∷ s) a (λ z. omega arith))
 
-pub segment_alignment-empty : (s : List ℕ) → length s ≡ 0 → 0 ≡ alignment_code (segment_alignment s)
+pub segment_alignment-empty : (s : List ℕ) → length s ≡ 0 → None ≡ segment_alignment s
 unfolding last_or
 segment_alignment-empty [] e = refl
 segment_alignment-empty (a ∷ s) e = absurd (omega arith)
 
 module _ (s : List ℕ) (filled : length s ≡ 0 → ⊥) where
-  pub segment_alignment-both : get_or s 0 0 ≡ colon → get_or s (length s - 1) 0 ≡ colon → 3 ≡ alignment_code (segment_alignment s)
+  pub segment_alignment-both : get_or s 0 0 ≡ colon → get_or s (length s - 1) 0 ≡ colon → Center ≡ segment_alignment s
   segment_alignment-both e f = rw (last-at s 0 filled, eq-eqb (get_or s 0 0) colon e, eq-eqb (get_or s (length s - 1) 0) colon f)
 
-  pub segment_alignment-left : get_or s 0 0 ≡ colon → (get_or s (length s - 1) 0 ≡ colon → ⊥) → 1 ≡ alignment_code (segment_alignment s)
+  pub segment_alignment-left : get_or s 0 0 ≡ colon → (get_or s (length s - 1) 0 ≡ colon → ⊥) → Left ≡ segment_alignment s
   segment_alignment-left e f = rw (last-at s 0 filled, eq-eqb (get_or s 0 0) colon e, ne_eqb (get_or s (length s - 1) 0) colon f)
 
-  pub segment_alignment-right : (get_or s 0 0 ≡ colon → ⊥) → get_or s (length s - 1) 0 ≡ colon → 2 ≡ alignment_code (segment_alignment s)
+  pub segment_alignment-right : (get_or s 0 0 ≡ colon → ⊥) → get_or s (length s - 1) 0 ≡ colon → Right ≡ segment_alignment s
   segment_alignment-right e f = rw (last-at s 0 filled, ne_eqb (get_or s 0 0) colon e, eq-eqb (get_or s (length s - 1) 0) colon f)
 
-  pub segment_alignment-none : (get_or s 0 0 ≡ colon → ⊥) → (get_or s (length s - 1) 0 ≡ colon → ⊥) → 0 ≡ alignment_code (segment_alignment s)
+  pub segment_alignment-none : (get_or s 0 0 ≡ colon → ⊥) → (get_or s (length s - 1) 0 ≡ colon → ⊥) → None ≡ segment_alignment s
   segment_alignment-none e f = rw (last-at s 0 filled, ne_eqb (get_or s 0 0) colon e, ne_eqb (get_or s (length s - 1) 0) colon f)
 
 -- ---- the alignment of a column
@@ -53,7 +56,7 @@ to_plus-first (b ∷ bs) = go (eqb b plus) (to_plus-first bs) where
   go true later = refl
   go false later = ap (λ (l : List ℕ). b ∷ l) later
 
-pub to_plus-length : (s : List ℕ) (end : ℕ) → end ≡ length (to_plus s) → length (take end s) ≡ end
+pub to_plus-length : (s : List ℕ) (end : ℕ) → end ≡ length (to_plus s) → end ≡ length (take end s)
 to_plus-length s end e = rw (e, to_plus-first s)
 
 module _ (glyphs offsets line : List ℕ) (a x : ℕ) where
@@ -71,9 +74,8 @@ module _ (glyphs offsets line : List ℕ) (a x : ℕ) where
     go true = refl
     go false = refl
 
-  pub alignment_from-found : (byte end r : ℕ) → code_at glyphs a x ≡ 3 → byte ≡ code_at offsets a x
-      → end ≡ length (to_plus (take (length line - (byte + 1)) (drop (byte + 1) line)))
-      → r ≡ alignment_code (segment_alignment (take end (take (length line - (byte + 1)) (drop (byte + 1) line))))
-      → r ≡ alignment_from glyphs offsets line a x
-  alignment_from-found byte end r g b e f =
-      rw (f, e, b, part_to_end line (code_at offsets a x + 1), to_plus-first, eq-eqb (code_at glyphs a x) 3 g)
+  pub alignment_from-found : (byte end : ℕ) (rest : List ℕ) (r : TableAlignment) → code_at glyphs a x ≡ 3 → byte ≡ code_at offsets a x
+      → rest ≡ slice_range line (byte + 1) (length line) → end ≡ length (to_plus rest) → r ≡ segment_alignment (take end rest)
+      → alignment_code r ≡ alignment_from glyphs offsets line a x
+  alignment_from-found byte end rest r g b d e f =
+      rw (f, e, d, b, part_to_end line (code_at offsets a x + 1), to_plus-first, eq-eqb (code_at glyphs a x) 3 g)

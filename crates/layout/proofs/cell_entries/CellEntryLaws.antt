@@ -1,90 +1,95 @@
 -- Laws of the loop that writes the entries of cells.
-use Prim.Native.Nat.{ℕ, suc, ◌+◌, ◌*◌, ◌-◌, ◌^◌, ◌≤◌, ◌<◌}
-use mathlib.Core.Path.{◌≡◌, refl, ap, ◌∙◌}
-use mathlib.Core.List.{List, [], ◌∷◌, ◌++◌, Memᴰ}
+use Prim.Native.Nat.{ℕ, ◌+◌, ◌*◌, ◌-◌, ◌≤◌, ◌<◌}
+use mathlib.Core.Path.{◌≡◌, refl, sym, ap, subst, ◌∙◌}
+use mathlib.Core.List.{List, [], ◌∷◌, ◌++◌, flat_map, Memᴰ}
 use native.Mathlib.Omega.{arith}
 use native.Mathlib.Nat.{zero-add}
-use native.Mathlib.Numerals.{add-one}
-use lib.ListN.{length, take, drop, get_or, set, length-append, length-drop}
-use lib.Seq.{sets-eq, length-take-le}
-use Rattle.seq.proofs.Entries.{Written, none_written, all-written}
+use lib.ListN.{length, take, drop, get_or, length-append, length-drop}
+use lib.Seq.{length-take-le}
+use Rattle.seq.proofs.FlatMaps.{length-flat_map}
+use Rattle.seq.proofs.Entries.{Written, none_written, all-written, write-more}
 use Rattle.grid.specs.Answer.{over}
-use Rattle.grid.specs.Values.{Rect}
-use Rattle.representation.specs.Arrays.{rects_of}
-use Rattle.representation.proofs.RectsLaws.{length-rects}
+use Rattle.grid.specs.Values as grid
+use Rattle.representation.specs.Arrays.{rect_in}
+use Rattle.representation.specs.Lent.{rect_of}
+use Rattle.representation.specs.Traced.{rects_held}
+use Rattle.representation.specs.declared.rect.Rect.{Rect}
+use Rattle.representation.specs.declared.rects.Rects.{Rects}
+use Rattle.representation.proofs.RectsLaws.{length-rects, get_or-rects}
 use Rattle.representation.specs.declared.Bounds.{Bounds}
 use Rattle.representation.specs.LayoutEntries.{lines_held, cell_entries, Numbered}
 use Rattle.representation.specs.TableEntries.{table_entry, table_entries}
-use Rattle.layout.specs.Written.{MoreRoom, MoreIn}
-use Rattle.representation.proofs.HeldLaws.{AllNumbered, all-numbered, span-next}
+use Rattle.layout.specs.Written.{MoreIn}
+use Rattle.representation.proofs.HeldLaws.{no_rect, rect-holds, index-grows}
 
--- ---- cells
-pub cell-stored : (a b c d e at : ℕ) (out : List ℕ) → at + 5 ≤ length out
-    → set (set (set (set (set out at a) (at + 1) b) (at + 2) c) (at + 3) d) (at + 4) e ≡ take at out ++ (a ∷ b ∷ c ∷ d ∷ e ∷ []) ++ drop (at + 5) out
-cell-stored a b c d e at out h =
-    let two : at + 2 ≡ suc (suc at) = omega arith in
-    let three : at + 3 ≡ suc (suc (suc at)) = omega arith in
-    let four : at + 4 ≡ suc (suc (suc (suc at))) = omega arith in
-    rw (two, three, four, add-one at) (sets-eq (a ∷ b ∷ c ∷ d ∷ e ∷ []) out at h)
-
-pub record SpansWritten (rects : List ℕ) (n : ℕ) (rows columns : Bounds) (array : List ℕ) (step from : ℕ) (buffer : List ℕ) (k : ℕ) (out : List ℕ) : Type 0 where
-  pub numbered : AllNumbered rects n rows columns
+pub record SpansWritten (rects : Rects) (rows columns : Bounds) (array : List ℕ) (step from : ℕ) (buffer : List ℕ) (k : ℕ) (out : List ℕ) : Type 0 where
   pub kept : length out ≡ length buffer
-  pub entries : (f : Rect → ℕ) → MoreIn f rects n array step from → Written (table_entry f (lines_held rows) (lines_held columns)) (rects_of n rects) 0 buffer k out
+  pub entries : (f : grid.Rect → ℕ) → MoreIn f rects array step from → Written (table_entry f (lines_held rows) (lines_held columns)) (rects_held rects) 0 buffer k out
 
-pub no_span : (rects : List ℕ) (n : ℕ) (rows columns : Bounds) (array : List ℕ) (step from : ℕ) (buffer : List ℕ)
-    → ((r : Rect) → Memᴰ r (rects_of n rects) → Numbered rows columns r) → SpansWritten rects n rows columns array step from buffer 0 buffer
-no_span rects n rows columns array step from buffer each =
+pub no_span : (rects : Rects) (rows columns : Bounds) (array : List ℕ) (step from : ℕ) (buffer : List ℕ) → SpansWritten rects rows columns array step from buffer 0 buffer
+no_span rects rows columns array step from buffer =
     record {
-      numbered = all-numbered rects n rows columns each;
       kept = refl;
-      entries = λ f more. none_written (table_entry f (lines_held rows) (lines_held columns)) (rects_of n rects) 0 buffer;
+      entries = λ f more. none_written (table_entry f (lines_held rows) (lines_held columns)) (rects_held rects) 0 buffer;
     }
 
-module _ (rects : List ℕ) (n : ℕ) (rows columns : Bounds) (array : List ℕ) (step from : ℕ) (buffer out : List ℕ) (k : ℕ)
-    (w : SpansWritten rects n rows columns array step from buffer k out) where
-  pub spans-room : k < n → 5 * n ≤ length buffer → 5 * k + 5 ≤ length out
-  spans-room h room = omega (arith, w.kept)
+-- a rectangle's edges have their numbers, in order
+module _ (rects : Rects) (rows columns : Bounds) (numbered : (r : grid.Rect) → Memᴰ r (rects_held rects) → Numbered rows columns r)
+    (k : ℕ) (h : k < rects.count) (r : Rect) (e : rect_of r ≡ rect_in rects.array.now k) where
+  here : Numbered rows columns (rect_of r)
+  here = subst (Numbered rows columns) (sym e) (rect-holds (Numbered rows columns) rects.array.now rects.count k h numbered)
 
-  pub spans-next : k < n → (out' : List ℕ) → 5 * n ≤ length buffer
+  pub rows-in-order : get_or rows.index r.top 0 ≤ get_or rows.index r.bottom 0
+  rows-in-order = rw (here.top_number, here.bottom_number) (index-grows (lines_held rows) r.top r.bottom (omega (arith, here.inside.down)))
+
+  pub columns-in-order : get_or columns.index r.left.0 0 ≤ get_or columns.index r.right.0 0
+  columns-in-order = rw (here.left_number, here.right_number) (index-grows (lines_held columns) r.left.0 r.right.0 (omega (arith, here.inside.across)))
+
+  -- one turn, whatever the number more
+  span-next : (more : grid.Rect → ℕ) (v : ℕ) (buffer out out' : List ℕ) → 5 * rects.count ≤ length buffer → v ≡ more (rect_in rects.array.now k)
+      → Written (table_entry more (lines_held rows) (lines_held columns)) (rects_held rects) 0 buffer k out
       → out' ≡ take (5 * k) out
-      ++ (get_or rows.index (get_or rects (4 * k) 0) 0
-      ∷ get_or columns.index (get_or rects (4 * k + 1) 0) 0
-      ∷ (get_or columns.index (get_or rects (4 * k + 3) 0) 0 - get_or columns.index (get_or rects (4 * k + 1) 0) 0)
-      ∷ (get_or rows.index (get_or rects (4 * k + 2) 0) 0 - get_or rows.index (get_or rects (4 * k) 0) 0)
+      ++ (get_or rows.index r.top 0
+      ∷ get_or columns.index r.left.0 0
+      ∷ (get_or columns.index r.right.0 0 - get_or columns.index r.left.0 0)
+      ∷ (get_or rows.index r.bottom 0 - get_or rows.index r.top 0)
+      ∷ v ∷ [])
+      ++ drop (5 * k + 5) out
+      → Written (table_entry more (lines_held rows) (lines_held columns)) (rects_held rects) 0 buffer (k + 1) out'
+  span-next more v buffer out out' room f w g =
+      let entries = table_entry more (lines_held rows) (lines_held columns) in
+      let before : length (flat_map entries (take k (rects_held rects))) ≡ 5 * k =
+      length-flat_map 5 entries (take k (rects_held rects)) (λ r. refl) ∙ rw (length-take-le k (rects_held rects) (rw length-rects (omega arith))) in
+      let own : entries (get_or (rects_held rects) k no_rect) ≡ entries (rect_of r) = ap entries (get_or-rects rects.count k rects.array.now no_rect h ∙ sym e) in
+      write-more entries (rects_held rects) 0 buffer out k no_rect (rw length-rects h) w (5 * k) out' (rw (before, zero-add)) (omega arith)
+      (rw (own, e, ← f) (rw (here.top_number, here.bottom_number, here.left_number, here.right_number) at g))
+
+module _ (rects : Rects) (rows columns : Bounds) (array : List ℕ) (step from : ℕ) (buffer out : List ℕ) (k : ℕ)
+    (w : SpansWritten rects rows columns array step from buffer k out) where
+  pub spans-next : k < rects.count → ((r : grid.Rect) → Memᴰ r (rects_held rects) → Numbered rows columns r) → (r : Rect) → rect_of r ≡ rect_in rects.array.now k
+      → (out' : List ℕ) → 5 * rects.count ≤ length buffer
+      → out' ≡ take (5 * k) out
+      ++ (get_or rows.index r.top 0
+      ∷ get_or columns.index r.left.0 0
+      ∷ (get_or columns.index r.right.0 0 - get_or columns.index r.left.0 0)
+      ∷ (get_or rows.index r.bottom 0 - get_or rows.index r.top 0)
       ∷ get_or array (step * k + from) 0 ∷ [])
       ++ drop (5 * k + 5) out
-      → SpansWritten rects n rows columns array step from buffer (k + 1) out'
-  spans-next h out' room e =
+      → SpansWritten rects rows columns array step from buffer (k + 1) out'
+  spans-next h numbered r e out' room g =
       record {
-        numbered = w.numbered;
-        kept = ap length e ∙ simp (length-append, length-drop) (omega (arith, length-take-le (5 * k) out (omega (arith, w.kept)), w.kept));
-        entries = λ f more.
-            span-next rects n rows columns k w.numbered h f (get_or array (step * k + from) 0) buffer out out' room (more k h) (w.entries f more) e;
+        kept = ap length g ∙ simp (length-append, length-drop) (omega (arith, length-take-le (5 * k) out (omega (arith, w.kept)), w.kept));
+        entries = λ f more. span-next rects rows columns numbered k h r e f (get_or array (step * k + from) 0) buffer out out' room (more k h) (w.entries f more) g;
       }
 
-  pub spans-done : n ≤ k → (f : Rect → ℕ) → MoreIn f rects n array step from
-      → out ≡ over (table_entries f (lines_held rows) (lines_held columns) (rects_of n rects)) buffer
+  pub spans-done : rects.count ≤ k → (f : grid.Rect → ℕ) → MoreIn f rects array step from
+      → out ≡ over (table_entries f (lines_held rows) (lines_held columns) (rects_held rects)) buffer
   spans-done h f more =
-      all-written (table_entry f (lines_held rows) (lines_held columns)) (rects_of n rects) 0 buffer out k (rw length-rects h) (w.entries f more)
+      all-written (table_entry f (lines_held rows) (lines_held columns)) (rects_held rects) 0 buffer out k (rw length-rects h) (w.entries f more)
       ∙ rw zero-add
 
--- ---- the number more
-module _ (n : ℕ) (array : List ℕ) (step from k : ℕ) (room : MoreRoom n array step from) (h : k < n) where
-  pub more-inside : step * k + from < length array
-  more-inside = room.inside k h
-
-  pub more-sum : step * k + from < 2 ^ 64
-  more-sum = omega (arith, room.small k h)
-
-  pub more-product : step * k < 2 ^ 64
-  more-product = omega (arith, room.small k h)
-
 -- the left columns, as they stand in the rectangles
-pub lefts-room : (rects : List ℕ) (n : ℕ) → 4 * n ≤ length rects → n ≤ 1024 → MoreRoom n rects 4 1
-lefts-room rects n room few = record { inside = λ k h. omega arith; small = λ k h. omega arith }
-
-pub lefts-written : (rects : List ℕ) (n : ℕ) (rows columns : Bounds) (buffer out : List ℕ)
-    → ((f : Rect → ℕ) → MoreIn f rects n rects 4 1 → out ≡ over (table_entries f (lines_held rows) (lines_held columns) (rects_of n rects)) buffer)
-    → out ≡ over (cell_entries (lines_held rows) (lines_held columns) (rects_of n rects)) buffer
-lefts-written rects n rows columns buffer out written = written (λ r. r.left) (λ k h. refl)
+pub lefts-written : (rects : Rects) (rows columns : Bounds) (buffer out : List ℕ)
+    → ((f : grid.Rect → ℕ) → MoreIn f rects rects.array.now 4 1 → out ≡ over (table_entries f (lines_held rows) (lines_held columns) (rects_held rects)) buffer)
+    → out ≡ over (cell_entries (lines_held rows) (lines_held columns) (rects_held rects)) buffer
+lefts-written rects rows columns buffer out written = written (λ r. r.left) (λ k h. refl)

@@ -10,29 +10,31 @@ use Rattle.seq.proofs.Entries.{Written, none_written, all-written, write-sets}
 use Rattle.grid.specs.Answer.{over}
 use Rattle.grid.specs.Layout.{Between, between}
 use Rattle.representation.specs.declared.Bounds.{Bounds}
-use Rattle.representation.specs.LayoutEntries.{lines_held, Rising, alignment_from, column_entries}
-use Rattle.representation.proofs.HeldLaws.{no_between, length_pairs, pair-at}
+use Rattle.representation.specs.LayoutEntries.{lines_held, alignment_from}
+use Rattle.representation.proofs.HeldLaws.{no_between, length-bands, band-at}
+use Rattle.layout.specs.Columns.{columns_of}
+use Rattle.layout.specs.declared.alignments.AlignmentLine.{AlignmentLine}
 
-pub record ColumnsWritten (glyphs offsets line : List ℕ) (a : ℕ) (columns : Bounds) (buffer : List ℕ) (k : ℕ) (out : List ℕ) : Type 0 where
-  pub entries : Written (λ (b : Between). alignment_from glyphs offsets line a b.from ∷ (b.to - b.from - 1) ∷ []) (between (lines_held columns)) 0 buffer k out
+abbrev column_entry : AlignmentLine → Between → List ℕ
+column_entry a b = alignment_from a.glyphs.now a.offsets.now a.text.now a.line b.from ∷ (b.to - b.from - 1) ∷ []
 
-module _ (glyphs offsets line : List ℕ) (a : ℕ) (columns : Bounds) (buffer : List ℕ) where
-  abbrev column_entry : Between → List ℕ
-  column_entry b = alignment_from glyphs offsets line a b.from ∷ (b.to - b.from - 1) ∷ []
+pub record ColumnsWritten (a : AlignmentLine) (columns : Bounds) (buffer : List ℕ) (k : ℕ) (out : List ℕ) : Type 0 where
+  pub entries : Written (column_entry a) (between (lines_held columns)) 0 buffer k out
 
-  pub columns_written-none : ColumnsWritten glyphs offsets line a columns buffer 0 buffer
-  columns_written-none = record { entries = none_written column_entry (between (lines_held columns)) 0 buffer }
+module _ (a : AlignmentLine) (columns : Bounds) (buffer : List ℕ) where
+  pub columns_written-none : ColumnsWritten a columns buffer 0 buffer
+  columns_written-none = record { entries = none_written (column_entry a) (between (lines_held columns)) 0 buffer }
 
-  module _ (out : List ℕ) (k : ℕ) (rising : Rising columns) (w : ColumnsWritten glyphs offsets line a columns buffer k out) where
-    pub columns_written-next : (s : ℕ) → k + 1 < columns.count → 2 * (columns.count - 1) ≤ length buffer → s ≡ alignment_from glyphs offsets line a (get_or columns.lines k 0)
-        → ColumnsWritten glyphs offsets line a columns buffer (k + 1)
-        (set (set out (2 * k) s) (2 * k + 1) (get_or columns.lines (k + 1) 0 - get_or columns.lines k 0 - 1))
-    columns_written-next s h room e =
+  module _ (out : List ℕ) (k : ℕ) (w : ColumnsWritten a columns buffer k out) where
+    pub columns_written-next : (from to code : ℕ) → k < columns.count - 1 → 2 * (columns.count - 1) ≤ length buffer → from ≡ get_or columns.lines k 0
+        → to ≡ get_or columns.lines (k + 1) 0 → code ≡ alignment_from a.glyphs.now a.offsets.now a.text.now a.line from
+        → ColumnsWritten a columns buffer (k + 1) (set (set out (2 * k) code) (2 * k + 1) (to - from - 1))
+    columns_written-next from to code h room f t e =
         let step =
-        write-sets column_entry (between (lines_held columns)) 0 buffer out k no_between (omega (arith, length_pairs columns k rising)) w.entries 2 (λ b. refl)
-        (rw (length_pairs columns k rising) (omega arith)) in
-        record { entries = rw (e, add-one (2 * k)) (rw (pair-at columns k rising h, zero-add) at step) }
+        write-sets (column_entry a) (between (lines_held columns)) 0 buffer out k no_between (omega (arith, length-bands columns)) w.entries 2 (λ b. refl)
+        (rw (length-bands columns) (omega arith)) in
+        record { entries = rw (e, f, t, add-one (2 * k)) (rw (band-at columns k (omega arith), zero-add) at step) }
 
-    pub columns_written-all : columns.count ≤ k + 1 → out ≡ over (column_entries glyphs offsets line a (lines_held columns)) buffer
+    pub columns_written-all : columns.count - 1 ≤ k → out ≡ over (columns_of a (lines_held columns)) buffer
     columns_written-all h =
-        all-written column_entry (between (lines_held columns)) 0 buffer out k (omega (arith, length_pairs columns k rising)) w.entries ∙ rw zero-add
+        all-written (column_entry a) (between (lines_held columns)) 0 buffer out k (omega (arith, length-bands columns)) w.entries ∙ rw zero-add

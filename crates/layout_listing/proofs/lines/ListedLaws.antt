@@ -6,33 +6,33 @@ use mathlib.Core.List.{List, ◌++◌, flat_map, Memᴰ}
 use native.Mathlib.Omega.{arith}
 use lib.ListN.{length, drop}
 use Rattle.seq.specs.Lists.{sum}
-use Rattle.text.specs.declared.Column.{Column}
 use Rattle.grid.specs.Answer.{Answer, accept, refuse, refuse_if, and_then, afterwards, over}
 use Rattle.grid.specs.Values.{Line, Layout, Cell}
 use Rattle.grid.specs.Slots.{grid_of, trimmed_at}
 use Rattle.grid.specs.Layout.{layout_of}
 use Rattle.grid.specs.Read.{read_layout}
-use Rattle.grid.specs.Flat.{FlatDrawing, drawing_contradicts, split_text, lines_of, column_numbers}
-use Rattle.grid.specs.LayoutCall.{LayoutSpace, LayoutSizes, LayoutArrays, space_short, row_numbers, cell_numbers, layout_arrays, layout_sizes, layout_short, layout_over, layout_accepts, layout_answer, layout_afterwards}
+use Rattle.grid.specs.Flat.{FlatDrawing, drawing_contradicts, lines_of, column_numbers}
+use Rattle.grid.specs.LayoutCall as grid
+use Rattle.grid.specs.LayoutCall.{LayoutSpace, LayoutArrays, space_short, row_numbers, cell_numbers, layout_arrays, layout_sizes, layout_short, layout_over, layout_accepts, layout_answer, layout_afterwards}
 use Rattle.grid.specs.Listing.{listed, refused_line}
 use Rattle.grid.proofs.ReadLaws.{read-cover}
-use Rattle.layout.specs.Call.{layout_answer_of, layout_lent}
-use Rattle.layout.specs.declared.LayoutAnswer.{LayoutAnswer}
-use Rattle.layout.specs.declared.LayoutAnswer.TheVariants.{Accepted, Refused}
-use Rattle.printing.specs.Printing.{Prints}
-use Rattle.printing.proofs.PutLaws.{prints-as}
+use Rattle.std.specs.Prelude.{Result, Ok, Err}
+use Rattle.refusals.specs.Refusal.{number_of, place_of}
+use Rattle.refusals.specs.declared.Refusal.{Refusal}
+use Rattle.layout.specs.Call.{sizes_of, layout_answer_of, layout_lent}
+use Rattle.layout.specs.declared.LayoutSizes.{LayoutSizes}
 use Rattle.layout_listing.specs.Printing.{inner_height, table_printed}
 use Rattle.layout_listing.proofs.print.TableLaws.{columns-back, rows_back, cells-back, inner-cells}
 use Rattle.input_lines.proofs.SheetLaws.{zeroes, length-zeroes, sheet_of, sheet-agrees, sheet-lines, lines-counted, fresh_space, fresh-enough}
-use Rattle.layout_listing.specs.Listed.{listed_lines, LayoutTold}
+use Rattle.layout_listing.specs.Listed.{LayoutTold}
 use Rattle.layout_listing.proofs.lines.SizeLaws.{LayoutRead, layout_read-made, layout-small, Rooms, layout-fits}
 
 -- what an answer tells of the listing of lines, given what reading them answers
-abbrev LayoutToldOf : List Line → LayoutArrays → Answer Layout → LayoutAnswer → Type 0
-LayoutToldOf lines after a (Accepted width across tall count ranges) =
-    (across ≤ 127) × (tall ≤ 127) × (count ≤ 1024)
-    × (table_printed width.0 (length lines) across tall count after.columns after.rows after.cells ≡ listed lines a)
-LayoutToldOf lines after a (Refused number place) = refused_line number place ≡ listed lines a
+abbrev LayoutToldOf : List Line → LayoutArrays → Answer Layout → Result LayoutSizes Refusal → Type 0
+LayoutToldOf lines after a (Ok s) =
+    (s.columns ≤ 127) × (s.rows ≤ 127) × (s.cells ≤ 1024)
+    × (table_printed s.width.0 (length lines) s.columns s.rows s.cells after.columns after.rows after.cells ≡ listed lines a)
+LayoutToldOf lines after a (Err e) = refused_line (number_of e) (place_of e) ≡ listed lines a
 
 -- The answer
 
@@ -70,44 +70,44 @@ module _ (w : LayoutSpace) (d : FlatDrawing) (out : LayoutArrays) (agree : drawi
       rw (columns-back l.columns column_rest, rows_back l.rows row_rest, cells-back l.cells (flat_map row_numbers l.rows ++ row_rest) cell_rest (inner_made l h row_rest))
 
   -- the answer and the arrays afterwards, for each of reading's answers
-  told-by : (a : Answer Layout) (r : LayoutAnswer) (after : LayoutArrays) → read_layout (lines_of d) ≡ a → layout_answer_of r ≡ and_then a (λ l. accept (layout_sizes (lines_of d) l))
+  told-by : (a : Answer Layout) (r : Result LayoutSizes Refusal) (after : LayoutArrays) → read_layout (lines_of d) ≡ a → layout_answer_of r ≡ and_then a (λ l. accept (layout_sizes (lines_of d) l))
       → after ≡ afterwards a (λ l. layout_over (layout_arrays l) out) out → LayoutToldOf (lines_of d) after a r
   unfolding layout_sizes layout_over layout_arrays
-  told-by (refuse m q) (Refused number place) after h e f =
-      let same : number ≡ m = cc in
-      let there : place ≡ q = cc in
+  told-by (refuse m q) (Err x) after h e f =
+      let same : number_of x ≡ m = cc in
+      let there : place_of x ≡ q = cc in
       rw (same, there)
-  told-by (refuse m q) (Accepted width across tall count ranges) after h e f = let z : ◌≡◌ {A = ℕ} 0 1 = cc in absurd (omega arith)
-  told-by (accept l) (Refused number place) after h e f = let z : ◌≡◌ {A = ℕ} 0 1 = cc in absurd (omega arith)
-  told-by (accept l) (Accepted width across tall count ranges) after h e f =
-      let sizes : record { width = width.0; columns = across; rows = tall; cells = count; ranges = ranges } ≡ layout_sizes (lines_of d) l = cc in
-      let a : width.0 ≡ length (trimmed_at (lines_of d) 0) = ap (λ (s : LayoutSizes). s.width) sizes in
-      let b : across ≡ length l.columns = ap (λ (s : LayoutSizes). s.columns) sizes in
-      let c : tall ≡ length l.rows = ap (λ (s : LayoutSizes). s.rows) sizes in
-      let x : count ≡ length l.cells = ap (λ (s : LayoutSizes). s.cells) sizes in
+  told-by (refuse m q) (Ok s) after h e f = let z : ◌≡◌ {A = ℕ} 0 1 = cc in absurd (omega arith)
+  told-by (accept l) (Err x) after h e f = let z : ◌≡◌ {A = ℕ} 0 1 = cc in absurd (omega arith)
+  told-by (accept l) (Ok s) after h e f =
+      let sizes : sizes_of s ≡ layout_sizes (lines_of d) l = cc in
+      let a : s.width.0 ≡ length (trimmed_at (lines_of d) 0) = ap (λ (s : grid.LayoutSizes). s.width) sizes in
+      let b : s.columns ≡ length l.columns = ap (λ (s : grid.LayoutSizes). s.columns) sizes in
+      let c : s.rows ≡ length l.rows = ap (λ (s : grid.LayoutSizes). s.rows) sizes in
+      let x : s.cells ≡ length l.cells = ap (λ (s : grid.LayoutSizes). s.cells) sizes in
       let made = layout_read-made (lines_of d) l h in
       let small = layout-small (lines_of d) l made in
       (omega (arith, b, small.columns), omega (arith, c, small.rows), omega (arith, x, small.cells), rw (a, b, c, x, f) (table_of l made))
 
-  pub layout_answer-told : (r : LayoutAnswer) (after : LayoutArrays) → layout_answer_of r ≡ layout_answer w d out → after ≡ layout_afterwards w d out
+  pub layout_answer-told : (r : Result LayoutSizes Refusal) (after : LayoutArrays) → layout_answer_of r ≡ layout_answer w d out → after ≡ layout_afterwards w d out
       → LayoutToldOf (lines_of d) after (read_layout (lines_of d)) r
   layout_answer-told r after e f = told-by (read_layout (lines_of d)) r after refl (e ∙ answer-all) (f ∙ after-all)
 
 -- The lines that are handed in, with fresh working space
 
 module _ (lengths text cols rows cells : List ℕ) (few : length lengths ≤ 128) (whole : sum lengths ≡ length text) where
-  as-told : (after : LayoutArrays) (r : LayoutAnswer) → LayoutToldOf (lines_of (sheet_of lengths text)) after (read_layout (lines_of (sheet_of lengths text))) r
+  as-told : (after : LayoutArrays) (r : Result LayoutSizes Refusal) → LayoutToldOf (lines_of (sheet_of lengths text)) after (read_layout (lines_of (sheet_of lengths text))) r
       → LayoutTold lengths text after.columns after.rows after.cells r
-  as-told after (Refused number place) h = h ∙ ap (λ (ls : List Line). listed ls (read_layout ls)) (sheet-lines lengths text)
-  as-told after (Accepted width across tall count ranges) h = (
+  as-told after (Err e) h = h ∙ ap (λ (ls : List Line). listed ls (read_layout ls)) (sheet-lines lengths text)
+  as-told after (Ok s) h = (
     h.0,
     h.1,
     h.2,
-    ap (λ (n : ℕ). table_printed width.0 n across tall count after.columns after.rows after.cells) (sym (lines-counted lengths text)) ∙ h.3
+    ap (λ (n : ℕ). table_printed s.width.0 n s.columns s.rows s.cells after.columns after.rows after.cells) (sym (lines-counted lengths text)) ∙ h.3
         ∙ ap (λ (ls : List Line). listed ls (read_layout ls)) (sheet-lines lengths text),
   )
 
-  pub layout_told-call : (length cols ≡ 254) × (length rows ≡ 381) × (length cells ≡ 5120) → (r : LayoutAnswer) (cols' rows' cells' ranges' : List ℕ)
+  pub layout_told-call : (length cols ≡ 254) × (length rows ≡ 381) × (length cells ≡ 5120) → (r : Result LayoutSizes Refusal) (cols' rows' cells' ranges' : List ℕ)
       → layout_answer_of r ≡ layout_answer fresh_space (sheet_of lengths text) (layout_lent cols rows cells (zeroes 32768))
       → layout_lent cols' rows' cells' ranges' ≡ layout_afterwards fresh_space (sheet_of lengths text) (layout_lent cols rows cells (zeroes 32768))
       → LayoutTold lengths text cols' rows' cells' r
@@ -115,20 +115,3 @@ module _ (lengths text cols rows cells : List ℕ) (few : length lengths ≤ 128
       as-told (layout_lent cols' rows' cells' ranges') r
       (layout_answer-told fresh_space (sheet_of lengths text) (layout_lent cols rows cells (zeroes 32768)) (sheet-agrees lengths text few whole) fresh-enough
       (record { columns = rooms.0; rows = rooms.1; cells = rooms.2; ranges = length-zeroes 32768 }) r (layout_lent cols' rows' cells' ranges') e f)
-
--- What is printed of an answer
-
-module _ (lengths text cols rows cells : List ℕ) (r : LayoutAnswer) where
-  module _ (width : Column) (across tall count ranges : ℕ) (e : r ≡ Accepted width across tall count ranges) (h : LayoutTold lengths text cols rows cells r) where
-    accepted : LayoutTold lengths text cols rows cells (Accepted width across tall count ranges)
-    accepted = rw e at h
-
-    pub layout_told-few : (n : ℕ) → 131072 ≤ n → (across ≤ 127) × (tall ≤ 127) × (count ≤ 1024) × (131072 ≤ n)
-    layout_told-few n room = (accepted.0, accepted.1, accepted.2, room)
-
-    pub layout_told-table : {out : List ℕ} {end : ℕ} → Prints out end (table_printed width.0 (length lengths) across tall count cols rows cells) → Prints out end (listed_lines (split_text lengths text))
-    layout_told-table p = prints-as p accepted.3
-
-  pub layout_told-refused : (number place : ℕ) → r ≡ Refused number place → LayoutTold lengths text cols rows cells r → {out : List ℕ} {end : ℕ} → Prints out end (refused_line number place)
-      → Prints out end (listed_lines (split_text lengths text))
-  layout_told-refused number place e h p = prints-as p (rw e at h)

@@ -7,10 +7,18 @@ use native.Mathlib.Omega.{arith}
 use lib.ListN.{length, drop, get_or}
 use lib.Seq.{get_or-drop}
 use borrow.Author.Tests.{ne_eqb}
+use Rattle.std.specs.Prelude.{Result, Ok, Err}
+use Rattle.std.specs.Result.{result_unwrap_or}
 use Rattle.seq.specs.Ascii.{ascii}
 use Rattle.seq.specs.Decimal.{decimal}
 use Rattle.text.specs.Characters.{space}
 use Rattle.grid.specs.Values.{GridTableColumn, Row}
+use Rattle.grid.specs.declared.TableAlignment.{TableAlignment}
+use Rattle.grid.specs.declared.TableAlignment.TheVariants.{None}
+use Rattle.grid.specs.declared.GridTableSection.{GridTableSection}
+use Rattle.grid.specs.declared.GridTableSection.TheVariants.{Head, Body, Foot}
+use Rattle.grid.specs.declared.UnknownCode.{UnknownCode}
+use Rattle.grid.specs.Codes.{DecodesAlignment}
 use Rattle.grid.specs.Flat.{code_alignment, code_section, columns_of_array}
 use Rattle.grid.specs.Listing.{line_feed, printed, numbered, column_line, row_line, alignment_letter, section_letter}
 use Rattle.printing.specs.Printing.{Put, Prints, spaced, cell_printed}
@@ -27,29 +35,23 @@ col_word = 0x63 ∷ 0x6f ∷ 0x6c ∷ []
 abbrev row_word : List ℕ
 row_word = 0x72 ∷ 0x6f ∷ 0x77 ∷ []
 
--- Letters
+-- Codes
 
 module _ (code : ℕ) where
-  pub letter-left : code ≡ 1 → 0x4c ∷ [] ≡ alignment_letter (code_alignment code)
-  letter-left h = rw h
+  pub section-head : code ≡ 0 → Head ≡ code_section code
+  section-head h = rw h
 
-  pub letter-right : code ≡ 2 → 0x52 ∷ [] ≡ alignment_letter (code_alignment code)
-  letter-right h = rw h
+  pub section-foot : code ≡ 2 → Foot ≡ code_section code
+  section-foot h = rw h
 
-  pub letter-center : code ≡ 3 → 0x43 ∷ [] ≡ alignment_letter (code_alignment code)
-  letter-center h = rw h
+  pub section-body : (code ≡ 0 → ⊥) → (code ≡ 2 → ⊥) → Body ≡ code_section code
+  section-body zeroth two = rw (ne_eqb code 0 zeroth, ne_eqb code 2 two)
 
-  pub letter-none : (code ≡ 1 → ⊥) → (code ≡ 2 → ⊥) → (code ≡ 3 → ⊥) → 0x4e ∷ [] ≡ alignment_letter (code_alignment code)
-  letter-none one two three = rw (ne_eqb code 1 one, ne_eqb code 2 two, ne_eqb code 3 three)
-
-  pub letter-head : code ≡ 0 → 0x48 ∷ [] ≡ section_letter (code_section code)
-  letter-head h = rw h
-
-  pub letter-foot : code ≡ 2 → 0x46 ∷ [] ≡ section_letter (code_section code)
-  letter-foot h = rw h
-
-  pub letter-body : (code ≡ 0 → ⊥) → (code ≡ 2 → ⊥) → 0x42 ∷ [] ≡ section_letter (code_section code)
-  letter-body zeroth two = rw (ne_eqb code 0 zeroth, ne_eqb code 2 two)
+  pub decoded : (r : Result TableAlignment UnknownCode) → DecodesAlignment code r → result_unwrap_or r None ≡ code_alignment code
+  decoded (Ok a) h = h.0
+  decoded (Err e) h =
+      let large : 3 < code = h.1 in
+      rw (ne_eqb code 1 (λ e. omega arith), ne_eqb code 2 (λ e. omega arith), ne_eqb code 3 (λ e. omega arith))
 
 -- One line
 
@@ -62,9 +64,9 @@ grid-put : {d e f : List ℕ} {at mid r : ℕ} (a b x y z : ℕ) → Put 109 d e
 unfolding spaced printed ascii
 grid-put a b x y z p q = put_as (put_then p q) (simp append_assoc)
 
-pub column-put : {d e f g : List ℕ} {at mid end r sign : ℕ} (index alignment width : ℕ) → sign ∷ [] ≡ alignment_letter (code_alignment alignment)
+pub column-put : {d e f g : List ℕ} {at mid end r sign : ℕ} (index : ℕ) (alignment : TableAlignment) (width : ℕ) → sign ∷ [] ≡ alignment_letter alignment
     → Put 45 d e at mid (col_word ++ spaced (index ∷ width ∷ [])) → Put 2 e f mid end (space ∷ sign ∷ []) → Put 1 f g end r (line_feed ∷ [])
-    → Put 48 d g at r (column_line index (column_of alignment width))
+    → Put 48 d g at r (column_line index (record { alignment = alignment; width = width }))
 unfolding spaced printed ascii
 column-put index alignment width letter p q w =
     put_as (put_then (put_then p q) w) (rw (← letter) (simp append_assoc))
@@ -76,9 +78,9 @@ row_words a t b sign =
     rw (append-nil a, append-nil b)
     (ap (λ (l : List ℕ). row_word ++ space ∷ (a ++ space ∷ sign ∷ space ∷ l)) (append_assoc t (space ∷ b) (line_feed ∷ [])))
 
-pub row_put : {d e f g k : List ℕ} {at mid end last r sign : ℕ} (index section top bottom : ℕ) → sign ∷ [] ≡ section_letter (code_section section)
+pub row_put : {d e f g k : List ℕ} {at mid end last r sign : ℕ} (index : ℕ) (section : GridTableSection) (top bottom : ℕ) → sign ∷ [] ≡ section_letter section
     → Put 24 d e at mid (row_word ++ spaced (index ∷ [])) → Put 2 e f mid end (space ∷ sign ∷ []) → Put 42 f g end last (spaced (top ∷ bottom ∷ []))
-    → Put 1 g k last r (line_feed ∷ []) → Put 69 d k at r (row_line index (row_of section top bottom))
+    → Put 1 g k last r (line_feed ∷ []) → Put 69 d k at r (row_line index (record { section = section; top = top; bottom = bottom }))
 unfolding spaced printed ascii
 row_put index section top bottom letter p q w v =
     put_as (put_then p (put_then q (put_then w v))) (rw (← letter) (row_words (decimal index) (decimal top) (decimal bottom) _))
@@ -161,19 +163,19 @@ cells-snoc (suc n) rows cells =
     (ap (λ (l : List ℕ). cell_at 0 rows cells ++ l) (cells-snoc n rows (drop 5 cells)) ∙ sym (append_assoc (cell_at 0 rows cells) (cells_printed n rows (drop 5 cells)) (cell_at n rows (drop 5 cells))))
 
 module _ {d e f : List ℕ} {at end r : ℕ} where
-  pub columns-put : (array : List ℕ) (i alignment width : ℕ) → (alignment ≡ get_or array (2 * i) 0) × (alignment < 65536)
-      → (width ≡ get_or array (2 * i + 1) 0) × (width < 65536) → Put (48 * i) d e at end (numbered column_line 0 (columns_of_array i array))
-      → Put 48 e f end r (column_line i (column_of alignment width)) → Put (48 * (i + 1)) d f at r (numbered column_line 0 (columns_of_array (i + 1) array))
-  columns-put array i alignment width a w p q =
-      let line : column_line i (column_of alignment width) ≡ column_line i (column_of (get_or array (2 * i) 0) (get_or array (2 * i + 1) 0)) = rw (a.0, w.0) in
+  pub columns-put : (array : List ℕ) (i code width : ℕ) (alignment : TableAlignment) → (code ≡ get_or array (2 * i) 0) × (code < 65536)
+      → alignment ≡ code_alignment code → (width ≡ get_or array (2 * i + 1) 0) × (width < 65536) → Put (48 * i) d e at end (numbered column_line 0 (columns_of_array i array))
+      → Put 48 e f end r (column_line i (record { alignment = alignment; width = width })) → Put (48 * (i + 1)) d f at r (numbered column_line 0 (columns_of_array (i + 1) array))
+  columns-put array i code width alignment c a w p q =
+      let line : column_line i (record { alignment = alignment; width = width }) ≡ column_line i (column_of (get_or array (2 * i) 0) (get_or array (2 * i + 1) 0)) = rw (a, c.0, w.0) in
       put-most (put_as (put_then p (put_as q line)) (sym (columns-next i array))) (omega arith)
 
-  pub rows-put : (array : List ℕ) (i section top bottom : ℕ) → (section ≡ get_or array (3 * i) 0) × (section < 65536)
-      → (top ≡ get_or array (3 * i + 1) 0) × (top < 65536) → (bottom ≡ get_or array (3 * i + 2) 0) × (bottom < 65536)
-      → Put (69 * i) d e at end (numbered row_line 0 (rows_of_array i array)) → Put 69 e f end r (row_line i (row_of section top bottom))
+  pub rows-put : (array : List ℕ) (i code top bottom : ℕ) (section : GridTableSection) → (code ≡ get_or array (3 * i) 0) × (code < 65536)
+      → section ≡ code_section code → (top ≡ get_or array (3 * i + 1) 0) × (top < 65536) → (bottom ≡ get_or array (3 * i + 2) 0) × (bottom < 65536)
+      → Put (69 * i) d e at end (numbered row_line 0 (rows_of_array i array)) → Put 69 e f end r (row_line i (record { section = section; top = top; bottom = bottom }))
       → Put (69 * (i + 1)) d f at r (numbered row_line 0 (rows_of_array (i + 1) array))
-  rows-put array i section top bottom s t b p q =
-      let line : row_line i (row_of section top bottom) ≡ row_line i (row_at i array) = rw (s.0, t.0, b.0) in
+  rows-put array i code top bottom section c s t b p q =
+      let line : row_line i (record { section = section; top = top; bottom = bottom }) ≡ row_line i (row_at i array) = rw (s, c.0, t.0, b.0) in
       put-most (put_as (put_then p (put_as q line)) (sym (rows_next i array))) (omega arith)
 
   pub cells-put : (rows cells : List ℕ) (i row rowspan inner : ℕ) → (row ≡ get_or cells (5 * i) 0) × (row < 65536) → (rowspan ≡ get_or cells (5 * i + 3) 0) × (rowspan < 65536) → inner ≡ inner_height rows row rowspan

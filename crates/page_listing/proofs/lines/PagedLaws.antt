@@ -20,7 +20,6 @@ use Rattle.grid.proofs.ReadLaws.{and_then-accepting, passed-if, passed_then}
 use Rattle.grid.specs.Listing.{refused_line}
 use Rattle.drawing.specs.GridRules.{keeps_rules}
 use Rattle.drawing.specs.Redraw.{table_empty, shape_too_large}
-use Rattle.drawing.specs.RedrawCall.{table_given}
 use Rattle.drawing.proofs.LimitLaws.{shape-limits}
 use Rattle.drawing.proofs.ReadLimits.{read-not-empty}
 use Rattle.html.specs.Page.{page}
@@ -28,16 +27,15 @@ use Rattle.html.specs.PageCall.{PageSizes, PageArrays, page_contradicts, page_ce
 use Rattle.html.specs.PageListing.{escaped_cell, escaped_table, escaped_sizes, page_listed}
 use Rattle.html.proofs.PageLengthLaws.{inner_size, page-length}
 use Rattle.html_page.specs.Call.{answer_of, sizes, arrays}
-use Rattle.html_page.specs.declared.PageAnswer.{PageAnswer}
-use Rattle.html_page.specs.declared.PageAnswer.TheVariants.{Accepted, Refused}
+use Rattle.refusals.specs.Refusal.{number_of, place_of}
+use Rattle.refusals.specs.declared.Refusal.{Refusal}
+use Rattle.std.specs.Prelude.{Result, Ok, Err}
 use Rattle.representation.specs.TableIn.{counts_in}
 use Rattle.representation.proofs.TableInLaws.{columns-length, cells-length}
 use Rattle.table_checks.proofs.arrays.ArrayLaws.{sized-agree}
-use Rattle.table.specs.declared.TableAnswer.{TableAnswer}
-use Rattle.table.specs.declared.TableAnswer.TheVariants.{Accepted as Read, Refused as Unread}
 use Rattle.input_lines.specs.Sheet.{lines_at0}
-use Rattle.input_table.specs.Told.{parts_of, TableHeld, TableTold}
-use Rattle.input_table.proofs.ToldLaws.{table-held, table-refused}
+use Rattle.grid.specs.Read.{read_table}
+use Rattle.input_table.specs.Told.{TableHeld}
 use Rattle.printing.specs.Printing.{Prints}
 use Rattle.printing.proofs.PutLaws.{prints-as}
 use Rattle.page_listing.specs.Inner.{cell_inner, cell_entries, InnerHeld, InnerTold}
@@ -221,23 +219,25 @@ module _ (s : TableSizes) (t : TableArrays) (agree : table_contradicts s t ≡ f
         called : page_accepts widths given lent out ≡ answer widths read
         called = accepts out ∙ whole
 
-        module _ {after : List ℕ} (r : PageAnswer) (told : (answer_of r ≡ page_answer widths given lent out) × (after ≡ page_afterwards widths given lent out)) where
+        module _ {after : List ℕ} (r : Result ℕ Refusal) (told : answer_of r ≡ page_answer widths given lent out) (done : after ≡ page_afterwards widths given lent out) where
           answered : answer_of r ≡ and_then (answer widths read) (λ bytes. accept (length bytes))
           unfolding page_answer
-          answered = told.0 ∙ ap (λ (a : Answer (List ℕ)). and_then a (λ bytes. accept (length bytes))) called
+          answered = told ∙ ap (λ (a : Answer (List ℕ)). and_then a (λ bytes. accept (length bytes))) called
 
           left : after ≡ afterwards (answer widths read) (λ bytes. over bytes out) out
           unfolding page_afterwards
-          left = told.1 ∙ ap (λ (a : Answer (List ℕ)). afterwards a (λ bytes. over bytes out) out) called
+          left = done ∙ ap (λ (a : Answer (List ℕ)). afterwards a (λ bytes. over bytes out) out) called
 
-          pub refused-paged : (number place : ℕ) → r ≡ Refused number place → {printed : List ℕ} {end : ℕ} → Prints printed end (refused_line number place)
-              → Prints printed end (table_paged widths read)
-          refused-paged number place e p =
+          pub refused-paged : (refusal : Refusal) → r ≡ Err refusal → {printed : List ℕ} {end : ℕ}
+              → Prints printed end (refused_line (number_of refusal) (place_of refusal)) → Prints printed end (table_paged widths read)
+          refused-paged refusal e p =
+              let number = number_of refusal in
+              let place = place_of refusal in
               let refused : answer widths read ≡ refuse number place =
               and_then-accepting (answer widths read) length number place (sym (sym (ap answer_of e) ∙ answered)) in
               prints-as p (ap page_listed (sym refused))
 
-          pub accepted-paged : (end : ℕ) → r ≡ Accepted end → Prints after end (table_paged widths read)
+          pub accepted-paged : (end : ℕ) → r ≡ Ok end → Prints after end (table_paged widths read)
           accepted-paged end e =
               let (bytes, paged, size) = passed_then (answer widths read) (λ bytes. accept (length bytes)) end (sym (sym (ap answer_of e) ∙ answered)) in
               let long : length bytes ≡ end = accept-same size in
@@ -257,15 +257,13 @@ module _ (s : TableSizes) (t : TableArrays) (agree : table_contradicts s t ≡ f
 pub read_some : {lengths text : List ℕ} {s : TableSizes} {t : TableArrays} → TableHeld lengths text s t → table_empty (table_of_arrays s t) ≡ false
 read_some {lengths} {text} {s} {t} held = read-not-empty (lines_at0 (split_text lengths text)) (table_of_arrays s t) held.read
 
-module _ (widths : Bool) (lengths text : List ℕ) (after : TableArrays) (r : TableAnswer) (told : TableTold lengths text after r) where
+module _ (widths : Bool) (lengths text : List ℕ) where
   abbrev paged_of : Answer Table → List ℕ
   paged_of a = page_listed (and_then a (λ t. page_bytes widths (escaped_sizes t) (escaped_table t)))
 
-  pub read-paged : (across tall count kept weight : ℕ) → r ≡ Read across tall count kept weight → {out : List ℕ} {end : ℕ}
-      → Prints out end (table_paged widths (table_of_arrays (table_given across tall count kept weight) (parts_of (table_given across tall count kept weight) after)))
-      → Prints out end (lines_paged widths (split_text lengths text))
-  read-paged across tall count kept weight e p = prints-as p (ap paged_of (sym (table-held lengths text after r told across tall count kept weight e).read))
+  pub read-paged : {s : TableSizes} {t : TableArrays} → TableHeld lengths text s t → table_paged widths (table_of_arrays s t) ≡ lines_paged widths (split_text lengths text)
+  read-paged h = ap paged_of (sym h.read)
 
-  pub unread-paged : (number place : ℕ) → r ≡ Unread number place → {out : List ℕ} {end : ℕ} → Prints out end (refused_line number place)
-      → Prints out end (lines_paged widths (split_text lengths text))
-  unread-paged number place e p = prints-as p (ap paged_of (sym (table-refused lengths text after r told number place e)))
+  pub unread-paged : {number place : ℕ} → read_table (lines_at0 (split_text lengths text)) ≡ refuse number place
+      → refused_line number place ≡ lines_paged widths (split_text lengths text)
+  unread-paged told = ap paged_of (sym told)

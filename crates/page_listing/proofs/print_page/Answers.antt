@@ -8,16 +8,16 @@ use Rattle.page_listing.proofs.print_page.Goals as goal
 pub slice_bounds-page_lines-end : goal.slice_bounds-page_lines-end
 slice_bounds-page_lines-end c = search lines_fit
 
-pub slice_bounds-page_lines-end-in-Lines : goal.slice_bounds-page_lines-end-in-Lines
-slice_bounds-page_lines-end-in-Lines c = search bytes_fit
+pub slice_bounds-page_lines-end-in-Ok : goal.slice_bounds-page_lines-end-in-Ok
+slice_bounds-page_lines-end-in-Ok c = search bytes_fit
 
 pub page_lines-requires : goal.page_lines-requires
 page_lines-requires c =
-    let agree = parts-agree _ _ _ _ _ _ c.in-Lines.is c.split_lines.ensures.lengths_len c.split_lines.ensures.splits in
+    let agree = parts-agree _ _ _ _ _ c.in-Ok.is c.split_lines.ensures.lengths_len c.split_lines.ensures.splits in
     (agree.0, agree.1, search rules)
 
-pub returns-in-TooLarge : goal.returns-in-TooLarge
-returns-in-TooLarge c = prints-as c.refused.ensures (search large-paged)
+pub returns-in-Err : goal.returns-in-Err
+returns-in-Err c = prints-as c.refused.ensures (search large-paged)
 
-pub returns-in-Lines : goal.returns-in-Lines
-returns-in-Lines c = prints-as c.page_lines.ensures (search held-paged)
+pub returns-in-Ok : goal.returns-in-Ok
+returns-in-Ok c = prints-as c.page_lines.ensures (search held-paged)

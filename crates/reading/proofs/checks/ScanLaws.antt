@@ -3,13 +3,16 @@ use Prim.Native.Nat.{ℕ, ◌+◌, ◌-◌, ◌*◌, ◌^◌, ◌≤◌, ◌<◌
 use mathlib.Core.Path.{◌≡◌, refl, sym, ap, subst, ◌∙◌}
 use mathlib.Core.Logic.{⊎_elim}
 use mathlib.Core.Bool.{Bool, true, false, not}
-use mathlib.Core.List.{List}
+use mathlib.Core.List.{List, ◌++◌}
 use native.Mathlib.Omega.{arith}
 use native.Mathlib.Nat.{eq-or-lt_of_le}
 use lib.Dec.{leb}
-use lib.ListN.{length, get_or, take, drop, set, length-take}
-use lib.Seq.{take-length, get_or-set_same, get_or-set_other}
+use lib.ListN.{length, get_or, take, drop, replicate, length-take}
+use Rattle.std.proofs.Common.{length-take-le}
+use Rattle.std.proofs.lemmas.Grind.{common_steps}
+use lib.Seq.{take-length, drop-drop}
 use borrow.Author.Tests.{not-false, leb-true}
+use Rattle.std.proofs.Common.{Some, None}
 use Rattle.seq.specs.Lists.{sum, first_at}
 use Rattle.seq.proofs.Gathered.{sum_step, sum-within}
 use Rattle.text.specs.Utf8.{well_formed, plain}
@@ -21,13 +24,11 @@ use Rattle.grid.proofs.SlotLaws.{lines-length, line_at}
 use Rattle.slots.specs.Scan.{LineKnown, ScanRoom, NextScanned}
 use Rattle.slots.proofs.scan.ScannedLaws.{known_kept}
 use Rattle.reading.specs.Agreement.{WithinLimits}
-use Rattle.reading.specs.Checks.{PlainNoted, LinesScanned}
-use Rattle.reading.specs.declared.checks.Place.TheVariants.{At, Nowhere}
+use Rattle.reading.specs.Checks.{LinesScanned}
 use Rattle.reading.proofs.checks.CheckLaws.{outside-here, inside-here, none-outside, plain-inside}
 
 -- the lines before y are in the set and known
 pub record LinesSoFar (lengths columns text glyphs₀ offsets₀ counts₀ glyphs offsets counts : List ℕ) (at y : ℕ) : Type 0 where
-  pub inside : y ≤ length lengths
   pub bytes : at ≡ sum (take y lengths)
   pub passed : first_at (λ line. not (well_formed line)) 0 (split_text lengths text) ≡ first_at (λ line. not (well_formed line)) y (split_text (drop y lengths) (drop at text))
   pub glyphs_kept : length glyphs ≡ length glyphs₀
@@ -39,7 +40,6 @@ pub lines_start : (lengths columns text glyphs offsets counts : List ℕ) → Li
 unfolding sum
 lines_start lengths columns text glyphs offsets counts =
     record {
-      inside = omega arith;
       bytes = refl;
       passed = refl;
       glyphs_kept = refl;
@@ -63,9 +63,6 @@ module _ (lengths columns text glyphs₀ offsets₀ counts₀ glyphs offsets cou
   line-fits = omega (arith, line-within, limited.few_bytes)
 
   module _ (h : y < length lengths) where
-    pub line-columned : y < length columns
-    line-columned = omega (arith, limited.agreed.columns_agree)
-
     pub line_plain : (known : ℕ) (t : Bool) → plain (take known text) ≡ true → t ≡ leb (at + get_or lengths y 0) known → t ≡ true
         → plain (take (at + get_or lengths y 0 - at) (drop at text)) ≡ true
     line_plain known t front is taken = plain-part text known front at (at + get_or lengths y 0 - at) (omega (arith, leb-true (at + get_or lengths y 0) known (sym is ∙ taken)))
@@ -89,17 +86,19 @@ module _ (lengths columns text glyphs₀ offsets₀ counts₀ glyphs offsets cou
 
     module _ (glyphs' offsets' counts' : List ℕ) (r : Bool)
         (next : NextScanned (take (at + get_or lengths y 0 - at) (drop at text)) (get_or columns y 0) y glyphs offsets counts glyphs' offsets' counts' r) where
-      pub line-outside : not r ≡ true → LinesScanned lengths columns text glyphs' offsets' counts' (At y)
+      well-told : r ≡ well_formed (take (get_or lengths y 0) (drop at text))
+      well-told = let k : at + get_or lengths y 0 - at ≡ get_or lengths y 0 = omega arith in rw k at next.told
+
+      pub line-outside : not r ≡ true → LinesScanned lengths columns text glyphs' offsets' counts' (Some y)
       line-outside f =
-          record { told = outside-here lengths text at y so_far.passed r h next.told f; known = λ e. absurd (let z : ◌≡◌ {A = ℕ} 0 1 = cc in omega arith) }
+          record { told = outside-here lengths (drop at text) y so_far.passed r h well-told f; known = λ e. absurd (let z : ◌≡◌ {A = ℕ} 0 1 = cc in omega arith) }
 
       pub line-next : not r ≡ false → slot_space ≤ length glyphs₀ → slot_space ≤ length offsets₀
           → LinesSoFar lengths columns text glyphs₀ offsets₀ counts₀ glyphs' offsets' counts' (at + get_or lengths y 0) (y + 1)
       line-next f room room' =
           record {
-            inside = omega arith;
             bytes = sym (sum_step lengths y h ∙ rw so_far.bytes);
-            passed = inside-here lengths text at y so_far.passed r h next.told f;
+            passed = rw drop-drop at (inside-here lengths (drop at text) y so_far.passed r h well-told f);
             glyphs_kept = next.glyphs_kept ∙ so_far.glyphs_kept;
             offsets_kept = next.offsets_kept ∙ so_far.offsets_kept;
             counts_kept = next.counts_kept ∙ so_far.counts_kept;
@@ -113,41 +112,31 @@ module _ (lengths columns text glyphs₀ offsets₀ counts₀ glyphs offsets cou
                 (eq-or-lt_of_le (let q : k ≤ y = omega arith in q));
           }
 
-  pub lines-known : length lengths ≤ y → LinesScanned lengths columns text glyphs offsets counts Nowhere
+  pub lines-known : length lengths ≤ y → LinesScanned lengths columns text glyphs offsets counts None
   lines-known end =
       record {
-        told = none-outside lengths text at y so_far.passed end;
-        known = λ e k h. so_far.known k (omega (arith, lines-length lengths columns text, so_far.inside));
+        told = none-outside lengths (drop at text) y so_far.passed end;
+        known = λ e k h. so_far.known k (omega (arith, lines-length lengths columns text));
       }
 
 -- ---- a drawing that is plain throughout
-pub noted-starts : (counts : List ℕ) → PlainNoted 0 counts
-noted-starts counts = record { noted = λ y h. absurd (omega arith) }
-
-pub noted-next : (lines y : ℕ) (counts₀ counts : List ℕ) → PlainNoted y counts → y < lines → length counts ≡ length counts₀ → lines ≤ length counts₀
-    → PlainNoted (y + 1) (set counts y 255)
-noted-next lines y counts₀ counts so_far h kept room =
-    record {
-      noted = λ k low.
-          ⊎_elim (λ (e : k ≡ y). rw e (get_or-set_same counts y 255 0 (omega arith)))
-          (λ (before : k < y). get_or-set_other counts y k 255 0 (λ e. omega arith) ∙ so_far.noted k before)
-          (eq-or-lt_of_le (let q : k ≤ y = omega arith in q));
-    }
-
-pub noted-ends : (lines y : ℕ) (counts : List ℕ) → PlainNoted y counts → lines ≤ y → PlainNoted lines counts
-noted-ends lines y counts so_far h = record { noted = λ k low. so_far.noted k (omega arith) }
-
-pub plain_known : (lengths columns text glyphs offsets counts : List ℕ) (known : ℕ) → plain (take known text) ≡ true → known ≡ length text → PlainNoted (length lengths) counts
-    → LinesScanned lengths columns text glyphs offsets counts Nowhere
-plain_known lengths columns text glyphs offsets counts known front all_Known all =
+pub plain_known : (lengths columns text glyphs offsets counts noted : List ℕ) (known : ℕ) → plain (take known text) ≡ true → known ≡ length text
+    → noted ≡ replicate (length (take (length lengths) counts)) 255 → length lengths ≤ length counts
+    → LinesScanned lengths columns text glyphs offsets (noted ++ drop (length lengths) counts) None
+plain_known lengths columns text glyphs offsets counts noted known front all_Known filled room =
     record {
       told = plain-inside lengths text 0 whole;
       known = λ e y h.
           let inside : y < length lengths = omega (arith, lines-length lengths columns text) in
           record {
             plain_line = λ marked. rw (line_at lengths columns text y no_line inside) (plain-take (get_or lengths y 0) (drop (sum (take y lengths)) text) (plain-drop (sum (take y lengths)) text whole));
-            other = λ unmarked. absurd (unmarked (all.noted y inside));
+            other = λ unmarked. absurd (unmarked (marks y inside));
           };
     } where
       whole : plain text ≡ true
       whole = sym (ap plain (ap (λ (n : ℕ). take n text) all_Known ∙ take-length text)) ∙ front
+
+      marks : (y : ℕ) → y < length lengths → get_or (noted ++ drop (length lengths) counts) y 0 ≡ 255
+      marks y h =
+          let all : noted ≡ replicate (length lengths) 255 = rw length-take-le at filled in
+          rw all (grind (arith, common_steps))

@@ -1,5 +1,6 @@
 -- From the redraw call's answer and arrays to what they tell, and what is printed of both calls.
-use Prim.Native.Nat.{ℕ, ◌-◌, ◌≤◌}
+use Prim.Native.Nat.{ℕ, ◌≤◌}
+use Rattle.std.specs.Prelude.{Result, Ok, Err}
 use mathlib.Core.Path.{◌≡◌, refl, ap, ap₂, sym, ◌∙◌}
 use mathlib.Core.Bool.{false}
 use mathlib.Core.List.{List, [], ◌∷◌, map, flat_map}
@@ -9,30 +10,29 @@ use Rattle.seq.specs.Lists.{sum}
 use Rattle.seq.proofs.FlatMaps.{flat_map-map}
 use Rattle.grid.specs.Answer.{Answer, accept, refuse, and_then}
 use Rattle.grid.specs.Values.{Line, Table}
-use Rattle.grid.specs.Read.{drawing_too_large}
+use Rattle.grid.specs.Read.{drawing_too_large, read_table}
 use Rattle.grid.specs.Flat.{FlatDrawing, TableSizes, TableArrays, split_text, lines_with, lines_of, flat_drawing, table_contradicts, table_of_arrays}
 use Rattle.grid.proofs.ReadLaws.{and_then-accepting, drawing_too_large-limited}
 use Rattle.grid.proofs.FlatDrawingLaws.{drawing-again, join_text-length}
 use Rattle.grid.specs.Listing.{refused_line}
 use Rattle.drawing.specs.Plain.{canvas_of, canvas_lines}
 use Rattle.drawing.specs.Redraw.{redraw}
-use Rattle.drawing.specs.RedrawCall.{RedrawSpace, DrawingSizes, DrawingArrays, table_given, redraw_spaces, drawing_lent, drawing_sizes, redraw_answer, redraw_afterwards}
+use Rattle.drawing.specs.RedrawCall.{RedrawSpace, DrawingSizes, DrawingArrays, redraw_spaces, drawing_lent, drawing_sizes, redraw_answer, redraw_afterwards}
 use Rattle.drawing.specs.RoundTripCall.{drawing_taken, RedrawRoom}
 use Rattle.drawing.proofs.LimitLaws.{drawn_too_large-parts}
 use Rattle.drawing.proofs.GlyphRows.{drawn-lines}
 use Rattle.drawing.proofs.RoundTrip.{accepted-passes}
 use Rattle.drawing.proofs.CallLaws.{redraw-answers, Redrawn, redraw-accepted, redrawn-taken}
 use Rattle.drawing.specs.Listing.{ended_line, redraw_listed}
-use Rattle.table.specs.declared.TableAnswer.{TableAnswer}
-use Rattle.table.specs.declared.TableAnswer.TheVariants.{Accepted as Read, Refused as Unread}
 use Rattle.cm.specs.Late.{answer_of as drawing_of}
-use Rattle.cm.specs.declared.draw.RedrawAnswer.{RedrawAnswer}
-use Rattle.cm.specs.declared.draw.RedrawAnswer.TheVariants.{Accepted, Refused}
+use Rattle.refusals.specs.Refusal.{number_of, place_of}
+use Rattle.refusals.specs.declared.Refusal.{Refusal}
+use Rattle.cm.specs.declared.draw.DrawingSizes.{DrawingSizes as Written}
 use Rattle.input_lines.proofs.SheetLaws.{zeroes, length-zeroes}
 use Rattle.printing.specs.Printing.{Prints}
 use Rattle.printing.proofs.PutLaws.{prints-as}
-use Rattle.input_table.specs.Told.{parts_of, TableTold}
-use Rattle.input_table.proofs.ToldLaws.{table-held, table-refused}
+use Rattle.input_lines.specs.Sheet.{lines_at0}
+use Rattle.input_table.specs.Told.{TableHeld}
 use Rattle.redraw_listing.specs.Told.{lines_redrawn, DrawingHeld, DrawingTold}
 
 -- ---- the redraw call
@@ -70,9 +70,6 @@ flat-whole : (ls : List Line) → sum (flat_drawing ls).lengths ≡ length (flat
 unfolding flat_drawing
 flat-whole ls = sym (join_text-length ls)
 
-take-less-none : (n : ℕ) (l : List ℕ) → take (n - 0) l ≡ take n l
-take-less-none n l = let same : n - 0 ≡ n = omega arith in rw same
-
 module _ (s : TableSizes) (t : TableArrays) (agree : table_contradicts s t ≡ false) (out_lengths out_text : List ℕ)
     (rooms : (length out_lengths ≡ 128) × (length out_text ≡ 32768)) where
   abbrev T : Table
@@ -99,13 +96,13 @@ module _ (s : TableSizes) (t : TableArrays) (agree : table_contradicts s t ≡ f
 
   drawn-told : (n : DrawingSizes) → Redrawn fresh_redraw 0 s t lent_drawing n → (after : DrawingArrays)
       → after ≡ redraw_afterwards fresh_redraw 0 s t lent_drawing
-      → (n.lines ≤ 128) × (n.bytes ≤ 32768) × DrawingHeld (redraw 0 T) (take (n.lines - 0) after.lengths) (take (n.bytes - 0) after.text)
+      → (n.lines ≤ 128) × (n.bytes ≤ 32768) × DrawingHeld (redraw 0 T) (take n.lines after.lengths) (take n.bytes after.text)
   unfolding drawing_taken flat_drawing
   drawn-told n r after f =
       let ls = r.lines in
       let taken : drawing_taken n after ≡ flat_drawing ls = ap (drawing_taken n) f ∙ redrawn-taken fresh_redraw 0 s t lent_drawing r in
-      let lengths : take (n.lines - 0) after.lengths ≡ (flat_drawing ls).lengths = take-less-none n.lines after.lengths ∙ ap (λ (d : FlatDrawing). d.lengths) taken in
-      let text : take (n.bytes - 0) after.text ≡ (flat_drawing ls).text = take-less-none n.bytes after.text ∙ ap (λ (d : FlatDrawing). d.text) taken in
+      let lengths : take n.lines after.lengths ≡ (flat_drawing ls).lengths = ap (λ (d : FlatDrawing). d.lengths) taken in
+      let text : take n.bytes after.text ≡ (flat_drawing ls).text = ap (λ (d : FlatDrawing). d.text) taken in
       let (lines, bytes) = drawn-few ls r.drawing in
       let as-lines = ap (λ (n : DrawingSizes). n.lines) r.sizes in
       let as_bytes = ap (λ (n : DrawingSizes). n.bytes) r.sizes in
@@ -120,16 +117,16 @@ module _ (s : TableSizes) (t : TableArrays) (agree : table_contradicts s t ≡ f
         },
       )
 
-  pub drawing-told : (r : RedrawAnswer) (after : DrawingArrays) → drawing_of r ≡ redraw_answer fresh_redraw 0 s t lent_drawing
+  pub drawing-told : (r : Result Written Refusal) (after : DrawingArrays) → drawing_of r ≡ redraw_answer fresh_redraw 0 s t lent_drawing
       → after ≡ redraw_afterwards fresh_redraw 0 s t lent_drawing → DrawingTold (redraw 0 T) after.lengths after.text r
-  drawing-told (Refused number place) after e f = undrawn-told number place (sym e)
-  drawing-told (Accepted lines bytes) after e f =
-      let n : DrawingSizes = record { lines = lines; bytes = bytes } in
+  drawing-told (Err refusal) after e f = undrawn-told (number_of refusal) (place_of refusal) (sym e)
+  drawing-told (Ok drawn) after e f =
+      let n : DrawingSizes = record { lines = drawn.lines; bytes = drawn.bytes } in
       drawn-told n (redraw-accepted fresh_redraw 0 s t lent_drawing n (sym e)) after f
 
 -- ---- as the functions have it
 
-pub table-drawn : (s : TableSizes) (t : TableArrays) (out_lengths out_text lengths columns text : List ℕ) (r : RedrawAnswer) → table_contradicts s t ≡ false
+pub table-drawn : (s : TableSizes) (t : TableArrays) (out_lengths out_text lengths columns text : List ℕ) (r : Result Written Refusal) → table_contradicts s t ≡ false
     → (length out_lengths ≡ 128) × (length out_text ≡ 32768)
     → (drawing_of r ≡ redraw_answer fresh_redraw 0 s t (drawing_lent out_lengths (zeroes 128) out_text))
     × (drawing_lent lengths columns text ≡ redraw_afterwards fresh_redraw 0 s t (drawing_lent out_lengths (zeroes 128) out_text))
@@ -138,30 +135,21 @@ table-drawn s t out_lengths out_text lengths columns text r agree rooms told =
     drawing-told s t agree out_lengths out_text rooms r (drawing_lent lengths columns text) told.0 told.1
 
 -- what is printed of the redraw call's answer
-module _ (drawing : Answer (List Line)) (lengths text : List ℕ) (r : RedrawAnswer) (told : DrawingTold drawing lengths text r) where
-  module _ (lines bytes : ℕ) (e : r ≡ Accepted lines bytes) where
-    pub drawing-held : (lines ≤ 128) × (bytes ≤ 32768) × DrawingHeld drawing (take (lines - 0) lengths) (take (bytes - 0) text)
-    drawing-held = rw e at told
+module _ (drawing : Answer (List Line)) where
+  pub drawing-printed : {lengths text : List ℕ} → DrawingHeld drawing lengths text → {out : List ℕ} {end : ℕ}
+      → Prints out end (flat_map ended_line (split_text lengths text)) → Prints out end (redraw_listed drawing)
+  drawing-printed held p = prints-as p held.drawn
 
-    pub drawing-printed : {out : List ℕ} {end : ℕ}
-        → Prints out end (flat_map ended_line (split_text (take (lines - 0) lengths) (take (bytes - 0) text))) → Prints out end (redraw_listed drawing)
-    drawing-printed p = prints-as p drawing-held.2.drawn
-
-  pub undrawn-printed : (number place : ℕ) → r ≡ Refused number place → {out : List ℕ} {end : ℕ} → Prints out end (refused_line number place)
+  pub undrawn-printed : {number place : ℕ} → drawing ≡ refuse number place → {out : List ℕ} {end : ℕ} → Prints out end (refused_line number place)
       → Prints out end (redraw_listed drawing)
-  undrawn-printed number place e p =
-      let refused : drawing ≡ refuse number place = rw e at told in
-      prints-as p (ap redraw_listed (sym refused))
+  undrawn-printed refused p = prints-as p (ap redraw_listed (sym refused))
 
 -- what is printed of the table call's answer
-module _ (lengths text : List ℕ) (after : TableArrays) (r : TableAnswer) (told : TableTold lengths text after r) where
-  pub table-printed : (across tall count kept weight : ℕ) → r ≡ Read across tall count kept weight → {out : List ℕ} {end : ℕ}
-      → Prints out end (redraw_listed (redraw 0 (table_of_arrays (table_given across tall count kept weight) (parts_of (table_given across tall count kept weight) after))))
-      → Prints out end (lines_redrawn (split_text lengths text))
-  table-printed across tall count kept weight e p =
-      prints-as p (ap (λ (a : Answer Table). redraw_listed (and_then a (redraw 0))) (sym (table-held lengths text after r told across tall count kept weight e).read))
+module _ (lengths text : List ℕ) where
+  pub table-printed : (s : TableSizes) (t : TableArrays) → TableHeld lengths text s t → {out : List ℕ} {end : ℕ}
+      → Prints out end (redraw_listed (redraw 0 (table_of_arrays s t))) → Prints out end (lines_redrawn (split_text lengths text))
+  table-printed s t held p = prints-as p (ap (λ (a : Answer Table). redraw_listed (and_then a (redraw 0))) (sym held.read))
 
-  pub unread-printed : (number place : ℕ) → r ≡ Unread number place → {out : List ℕ} {end : ℕ} → Prints out end (refused_line number place)
-      → Prints out end (lines_redrawn (split_text lengths text))
-  unread-printed number place e p =
-      prints-as p (ap (λ (a : Answer Table). redraw_listed (and_then a (redraw 0))) (sym (table-refused lengths text after r told number place e)))
+  pub unread-printed : {number place : ℕ} → read_table (lines_at0 (split_text lengths text)) ≡ refuse number place → {out : List ℕ} {end : ℕ}
+      → Prints out end (refused_line number place) → Prints out end (lines_redrawn (split_text lengths text))
+  unread-printed refused p = prints-as p (ap (λ (a : Answer Table). redraw_listed (and_then a (redraw 0))) (sym refused))

@@ -8,16 +8,16 @@ use Rattle.redraw_listing.proofs.print_redrawing.Goals as goal
 pub slice_bounds-redraw_lines-end : goal.slice_bounds-redraw_lines-end
 slice_bounds-redraw_lines-end c = search lines_fit
 
-pub slice_bounds-redraw_lines-end-in-Lines : goal.slice_bounds-redraw_lines-end-in-Lines
-slice_bounds-redraw_lines-end-in-Lines c = search bytes_fit
+pub slice_bounds-redraw_lines-end-in-Ok : goal.slice_bounds-redraw_lines-end-in-Ok
+slice_bounds-redraw_lines-end-in-Ok c = search bytes_fit
 
 pub redraw_lines-requires : goal.redraw_lines-requires
 redraw_lines-requires c =
-    let agree = parts-agree _ _ _ _ _ _ c.in-Lines.is c.split_lines.ensures.lengths_len c.split_lines.ensures.splits in
+    let agree = parts-agree _ _ _ _ _ c.in-Ok.is c.split_lines.ensures.lengths_len c.split_lines.ensures.splits in
     (agree.0, agree.1, search rules)
 
-pub returns-in-TooLarge : goal.returns-in-TooLarge
-returns-in-TooLarge c = prints-as c.refused.ensures (search large-redrawn)
+pub returns-in-Err : goal.returns-in-Err
+returns-in-Err c = prints-as c.refused.ensures (search large-redrawn)
 
-pub returns-in-Lines : goal.returns-in-Lines
-returns-in-Lines c = prints-as c.redraw_lines.ensures (search held-redrawn)
+pub returns-in-Ok : goal.returns-in-Ok
+returns-in-Ok c = prints-as c.redraw_lines.ensures (search held-redrawn)

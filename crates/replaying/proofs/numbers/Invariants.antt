@@ -1,8 +1,8 @@
-use Rattle.std.proofs.Common.{◌≤◌, ◌-◌, length}
+use Rattle.std.proofs.Common.{◌≤◌, length}
 use Rattle.replaying.proofs.numbers.Given as goal
 
-abbrev pub invariant-loop-at : goal.invariant-loop-at
-invariant-loop-at l = l.n ≤ length l.out
+abbrev pub invariant-loop-number : goal.invariant-loop-number
+invariant-loop-number g l = goal.F-IsAlwaysCallable g l.fitted × (l.n ≤ length l.out)
 
-abbrev pub decreases-loop-at : goal.decreases-loop-at
-decreases-loop-at l = length l.list - l.at
+abbrev pub decreases-loop-number : goal.decreases-loop-number
+decreases-loop-number g l = length l.left

@@ -39,9 +39,6 @@ module _ {count : ℕ} {sizes at : List ℕ} {i : ℕ} (a : Adding count sizes a
   long = length-take-le count sizes (omega (arith, a.size_room, a.few))
 
   module _ (h : i < count) where
-    pub offset-fits : Fits w64 (get_or at i 0 + get_or sizes i 0)
-    offset-fits = Fits-under w64 (get_or at i 0 + get_or sizes i 0) 10000000000 (omega (arith, a.near, a.small i, a.few)) tt
-
     pub next_fits : Fits w64 (get_or at i 0 + get_or sizes i 0 + 1)
     next_fits = Fits-under w64 (get_or at i 0 + get_or sizes i 0 + 1) 10000000000 (omega (arith, a.near, a.small i, a.few)) tt
 

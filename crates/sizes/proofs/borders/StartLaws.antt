@@ -1,18 +1,16 @@
 -- Laws of the widths at which columns start.
 use Prim.Native.Nat.{ℕ, zero, suc, ◌+◌, ◌*◌, ◌≤◌, ◌<◌, max}
 use mathlib.Core.Path.{◌≡◌, refl, sym, ◌∙◌}
-use mathlib.Core.Bool.{Bool, true, false, cond}
 use mathlib.Core.List.{List, map}
 use native.Mathlib.Omega.{arith}
-use lib.Dec.{eqb}
 use lib.ListN.{length, get_or, take, set, replicate, length-set, length-map, length-replicate}
 use lib.Seq.{ext_get_or, get_or-take, length-take-le}
-use borrow.Author.Tests.{eqb-false}
 use mir.Syntax.{w16}
 use mir.Val.{Fits}
 use Rattle.seq.proofs.Positions.{get_d_map}
 use Rattle.grid.specs.Values.{GridTableColumn}
 use Rattle.grid.specs.Flat.{code_alignment, columns_of_array}
+use Rattle.grid.specs.declared.TableAlignment.{TableAlignment}
 use Rattle.grid.specs.declared.TableAlignment.TheVariants.{None, Left, Right, Center}
 use Rattle.drawing.specs.Sizes.{least_width, start_width}
 use Rattle.representation.proofs.TableInLaws.{columns-length, columns-at}
@@ -21,24 +19,11 @@ use Rattle.sizes.proofs.EachLaws.{each_set}
 use Rattle.sizes.proofs.fit.TurnLaws.{need-small, small-set}
 
 -- ---- at least 1, or 3 if aligned
-pub least-none : {code : ℕ} → code ≡ 0 → 1 ≡ least_width (code_alignment code)
-least-none e = rw e
-
-pub least-aligned : {code : ℕ} → (code ≡ 0 → ⊥) → code < 4 → 3 ≡ least_width (code_alignment code)
-least-aligned {code} some few = go (eqb code 1) (eqb code 2) (eqb code 3) refl refl refl where
-  go : (one two three : Bool) → eqb code 1 ≡ one → eqb code 2 ≡ two → eqb code 3 ≡ three → 3 ≡ least_width (cond one Left (cond two Right (cond three Center None)))
-  go true two three e f g = refl
-  go false true three e f g = refl
-  go false false true e f g = refl
-  go false false false e f g = absurd (omega (arith, eqb-false code 1 e, eqb-false code 2 f, eqb-false code 3 g))
-
-least-small : (code : ℕ) → least_width (code_alignment code) ≤ 3
-least-small code = go (eqb code 1) (eqb code 2) (eqb code 3) where
-  go : (one two three : Bool) → least_width (cond one Left (cond two Right (cond three Center None))) ≤ 3
-  go true two three = omega arith
-  go false true three = omega arith
-  go false false true = omega arith
-  go false false false = omega arith
+least-small : (alignment : TableAlignment) → least_width alignment ≤ 3
+least-small None = omega arith
+least-small Left = omega arith
+least-small Right = omega arith
+least-small Center = omega arith
 
 pub ones_small : (n : ℕ) → EachAtMost 65535 (replicate n 1)
 ones_small zero i = omega arith
@@ -53,35 +38,29 @@ module _ (cols : List ℕ) (columns : ℕ) where
   pub record Starting (sizes : List ℕ) (k : ℕ) : Type 0 where
     pub few : columns ≤ 127
     pub cols_room : length cols ≡ 2 * columns
-    pub codes : (j : ℕ) → j < columns → get_or cols (2 * j) 0 < 4
     pub room : length sizes ≡ 128
     pub small : EachAtMost 65535 sizes
     pub started : (j : ℕ) → j < k → get_or sizes j 0 ≡ start_width (get_or (columns_of_array columns cols) j no_column)
 
-  pub none-started : (columns ≤ 127) × (length cols ≡ 2 * columns) → ((j : ℕ) → j < columns → get_or cols (2 * j) 0 < 4) → Starting (replicate 128 1) 0
-  none-started size codes =
+  pub none-started : (columns ≤ 127) × (length cols ≡ 2 * columns) → Starting (replicate 128 1) 0
+  none-started size =
       record {
         few = size.0;
         cols_room = size.1;
-        codes = codes;
         room = length-replicate {A = ℕ} 128 1;
         small = ones_small 128;
         started = λ j low. absurd (omega arith);
       }
 
   module _ {sizes : List ℕ} {k : ℕ} (s : Starting sizes k) where
-    pub code-known : k < columns → get_or cols (2 * k) 0 < 4
-    code-known = s.codes k
-
     pub one-started : {least size : ℕ} → k < columns → Fits w16 (get_or cols (2 * k + 1) 0) → least ≡ least_width (code_alignment (get_or cols (2 * k) 0))
         → size ≡ max (get_or cols (2 * k + 1) 0) least → Starting (set sizes k size) (k + 1)
     one-started {least} {size} h fits is told =
         record {
           few = s.few;
           cols_room = s.cols_room;
-          codes = s.codes;
           room = length-set sizes k size ∙ s.room;
-          small = small-set 65535 sizes k size s.small (omega (arith, told, is, least-small (get_or cols (2 * k) 0), need-small fits));
+          small = small-set 65535 sizes k size s.small (omega (arith, told, is, least-small (code_alignment (get_or cols (2 * k) 0)), need-small fits));
           started =
               each_set (λ j v. v ≡ start_width (get_or (columns_of_array columns cols) j no_column)) sizes k size (omega (arith, s.room, s.few))
               (told ∙ rw (columns-at columns cols k no_column h, is)) s.started;

@@ -64,9 +64,6 @@ module _ (text starts ends : List ℕ) (first : ℕ) where
   none-sized = record { counted = refl; across = refl; few = omega arith; narrow = omega arith }
 
   module _ {count i : ℕ} (m : Measurable text starts ends (first + count)) (h : i < count) where
-    pub start-inside : first + i < length starts
-    start-inside = omega (arith, m.start_room)
-
     pub end-inside : first + i < length ends
     end-inside = omega (arith, m.end_room)
 

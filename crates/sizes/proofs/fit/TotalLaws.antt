@@ -40,8 +40,5 @@ module _ {from span : ℕ} {sizes : List ℕ} {total i : ℕ} (t : Totalling fro
         }
 
   module _ (low : i ≤ span) (high : span ≤ i) where
-    pub all-added : total ≡ sum (take span (drop from sizes))
-    all-added = let e : i ≡ span = omega arith in rw e at t.added
-
     pub total-small : total ≤ 65535 * 1025 * 128
     total-small = omega (arith, t.few, t.inside)

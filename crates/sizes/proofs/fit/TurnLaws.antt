@@ -64,27 +64,9 @@ module _ (cells : List ℕ) (n from_at span_at : ℕ) (needs sizes₀ : List ℕ
           small = small;
         }
 
-    pub all-turned : k ≤ n → n ≤ k → sizes ≡ in_turn change sizes₀ (needs_in n from_at span_at cells needs)
-    all-turned low high = let e : k ≡ n = omega arith in rw e at t.turned
-
     module _ (h : k < n) where
-      pub from-inside : 5 * k + from_at < length cells
-      from-inside = omega (arith, t.spanned.room, t.spanned.early)
-
-      pub span-inside : 5 * k + span_at < length cells
-      span-inside = omega (arith, t.spanned.room, t.spanned.early)
-
-      pub need-inside : k < length needs
-      need-inside = omega (arith, t.need_room)
-
       pub first-inside : get_or cells (5 * k + from_at) 0 < 128
       first-inside = omega (arith, t.spanned.some k h, t.spanned.inside k h)
-
-      pub first-scaled : Fits w64 (get_or cells (5 * k + from_at) 0 * 8)
-      first-scaled = Fits-under w64 (get_or cells (5 * k + from_at) 0 * 8) 1024 (omega (arith, first-inside)) tt
-
-      pub span-reaches : get_or cells (5 * k + from_at) 0 + get_or cells (5 * k + span_at) 0 ≤ 128
-      span-reaches = t.spanned.inside k h
 
   -- ---- raised
   module _ {sizes : List ℕ} {k : ℕ} (t : Turning raise_single 65535 sizes k) where
@@ -103,9 +85,6 @@ module _ (cells : List ℕ) (n from_at span_at : ℕ) (needs sizes₀ : List ℕ
         one-turned t (e ∙ rw several) (ap length e) (rw e t.small)
 
   -- ---- grown
-  pub grown-small : {sizes : List ℕ} {k : ℕ} → Turning add_lack (65535 * (k + 1)) sizes k → k ≤ n → EachAtMost (65535 * 1025) sizes
-  grown-small t h i = omega (arith, t.small i, t.spanned.few)
-
   module _ {sizes : List ℕ} {k : ℕ} (t : Turning add_lack (65535 * (k + 1)) sizes k) (h : k < n) where
     abbrev first : ℕ
     first = get_or cells (5 * k + from_at) 0
@@ -113,25 +92,10 @@ module _ (cells : List ℕ) (n from_at span_at : ℕ) (needs sizes₀ : List ℕ
     abbrev span : ℕ
     span = get_or cells (5 * k + span_at) 0
 
-    pub last_fits : Fits w64 (first + span)
-    last_fits = Fits-under w64 (first + span) 129 (omega (arith, t.spanned.inside k h)) tt
-
-    pub last_some : 1 ≤ first + span
-    last_some = omega (arith, t.spanned.some k h)
-
     pub last-inside : first + span - 1 < 128
     last-inside = omega (arith, t.spanned.inside k h)
 
-    pub last-scaled : Fits w64 ((first + span - 1) * 8)
-    last-scaled = Fits-under w64 ((first + span - 1) * 8) 1024 (omega (arith, last-inside)) tt
-
     module _ {total : ℕ} (told : (total ≡ sum (take span (drop first sizes))) × (total ≤ 65535 * 1025 * 128)) where
-      pub have-fits : Fits w64 (total + span)
-      have-fits = Fits-under w64 (total + span) 10000000000 (omega (arith, told.1, t.spanned.inside k h)) tt
-
-      pub have-some : 1 ≤ total + span
-      have-some = omega (arith, t.spanned.some k h)
-
       has : have sizes (need k) ≡ total + span - 1
       has =
           let e : first + span - first ≡ span = omega arith in
@@ -144,11 +108,6 @@ module _ (cells : List ℕ) (n from_at span_at : ℕ) (needs sizes₀ : List ℕ
           (rw e (λ i. omega (arith, t.small i)))
 
       module _ (fits : Fits w16 (get_or needs k 0)) where
-        pub lack-fits : Fits w64 (get_or sizes (first + span - 1) 0 + (get_or needs k 0 - (total + span - 1)))
-        lack-fits =
-            Fits-under w64 (get_or sizes (first + span - 1) 0 + (get_or needs k 0 - (total + span - 1))) 100000000
-            (omega (arith, need-small fits, t.small (first + span - 1), t.spanned.few)) tt
-
         pub some-lack : {sizes' : List ℕ} → sizes' ≡ set sizes (first + span - 1) (get_or sizes (first + span - 1) 0 + (get_or needs k 0 - (total + span - 1)))
             → Turning add_lack (65535 * (k + 1 + 1)) sizes' (k + 1)
         some-lack e =

@@ -102,13 +102,3 @@ module _ (lengths text starts₀ ends₀ : List ℕ) where
                   each-set-both Stands starts ends i at (at + length line) (start-room h) (end-room h)
                   (omega arith, omega (arith, line-short, line-end), here) t.stands;
             }
-
-    pub all-trimmed : length lengths ≤ i → Trimmed lengths text starts ends
-    all-trimmed done =
-        record {
-          start_room = omega (arith, t.start_room, t.start_same);
-          end_room = omega (arith, t.end_room, t.end_same);
-          forward = λ j low. (t.stands j (omega arith)).0;
-          inside = λ j low. (t.stands j (omega arith)).1;
-          trimmed = λ j low. (t.stands j (omega arith)).2;
-        }

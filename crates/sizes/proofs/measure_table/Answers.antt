@@ -20,9 +20,6 @@ measure_cells-requires-clause-n_in_bounds c = (cells-asked c.requires.by_index.1
 pub column_offsets-requires-clause-columns_bound : goal.column_offsets-requires-clause-columns_bound
 column_offsets-requires-clause-columns_bound c = (columns-asked c.requires.by_index.1 c.measure_cells.ensures).0
 
-pub column_offsets-requires-clause-by_index : goal.column_offsets-requires-clause-by_index
-column_offsets-requires-clause-by_index c = (columns-asked c.requires.by_index.1 c.measure_cells.ensures).1.0
-
 pub column_offsets-requires-clause-spanned : goal.column_offsets-requires-clause-spanned
 column_offsets-requires-clause-spanned c = (columns-asked c.requires.by_index.1 c.measure_cells.ensures).1.1
 

@@ -2,7 +2,6 @@
 use Prim.Native.Nat.{ℕ, ◌+◌, ◌-◌, ◌*◌, ◌^◌, ◌≤◌, ◌<◌}
 use mathlib.Core.Path.{◌≡◌, refl, sym, ap, ap₂, subst, ◌∙◌}
 use mathlib.Core.Bool.{Bool, true, false, not, ◌&&◌, ◌||◌}
-use mathlib.Core.Option.{some}
 use mathlib.Core.Logic.{⊎_elim}
 use mathlib.Core.List.{List, map}
 use native.Mathlib.Omega.{arith}
@@ -11,7 +10,6 @@ use lib.Dec.{eqb, ltb}
 use lib.ListN.{length, get_or, take, drop, length-map, length-take}
 use borrow.Author.Tests.{eqb-true, not-true, not-false}
 use Rattle.seq.specs.Lists.{sum, range, up_to, select}
-use Rattle.seq.proofs.Tests.{true-not-false}
 use Rattle.seq.proofs.Gathered.{sum_step, sum-within, select-step}
 use Rattle.text.specs.Utf8.{plain}
 use Rattle.text.specs.Trim.{trim_end}
@@ -22,7 +20,8 @@ use Rattle.grid.specs.Slots.{Slot, line_slots, is_separator, trimmed_at, grid_of
 use Rattle.representation.specs.Arrays.{glyph_code, glyph_codes, slot_bytes}
 use Rattle.grid.proofs.SlotLaws.{lines-length, line_at, row_at, rows-length, row-at, wrong_row, no-wrong-row}
 use Rattle.slots.specs.declared.Separators.{Separators}
-use Rattle.slots.specs.declared.Filled.{Filled}
+use Rattle.std.specs.Prelude.{Ok, Err}
+use Rattle.refusals.specs.declared.Refusal.TheVariants.{WrongWidth}
 use Rattle.slots.specs.Filling.{separates, separator_lines, NextRoom, NextFilled, FilledNext, Fillable, AllFilled, FilledAll}
 use Rattle.slots.specs.Scan.{LineLeft, LineKnown}
 use Rattle.representation.specs.Sheet.{Sheet}
@@ -50,7 +49,6 @@ pub record SheetSoFar (lengths columns text : List ℕ) (width : ℕ) (counts gl
   pub inside : y ≤ length lengths
   pub bytes : at ≡ sum (take y lengths)
   pub few_separators : separators.count ≤ y
-  pub separators_room : length separators.lines ≡ 128
   pub separated : separator_lines separators ≡ select (is_separator (lines_from lengths columns text)) (up_to y)
   pub glyphs_kept : length glyphs ≡ length glyphs₀
   pub offsets_kept : length offsets ≡ length offsets₀
@@ -65,17 +63,16 @@ abbrev pub EachSoFar : (lengths text : List ℕ) → ℕ → (counts glyphs₀ o
 EachSoFar lengths text width counts glyphs₀ offsets₀ glyphs offsets separators at y =
     (columns : List ℕ) → Fillable lengths columns text width counts glyphs₀ offsets₀ → SheetSoFar lengths columns text width counts glyphs₀ offsets₀ glyphs offsets separators at y
 
-pub sheet-starts : (lengths text : List ℕ) (width : ℕ) (counts glyphs offsets array : List ℕ) → length array ≡ 128
-    → EachSoFar lengths text width counts glyphs offsets glyphs offsets (record { lines = array; count = 0 }) 0 0
+pub sheet-starts : (lengths text : List ℕ) (width : ℕ) (counts glyphs offsets : List ℕ) (separators : Separators) → separators.count ≡ 0
+    → EachSoFar lengths text width counts glyphs offsets glyphs offsets separators 0 0
 unfolding sum range select
-sheet-starts lengths text width counts glyphs offsets array room columns f =
+sheet-starts lengths text width counts glyphs offsets separators none columns f =
     record {
       wide = f.wide;
       inside = omega arith;
       bytes = refl;
       few_separators = omega arith;
-      separators_room = room;
-      separated = refl;
+      separated = rw none;
       glyphs_kept = refl;
       offsets_kept = refl;
       full = λ k h. absurd (omega arith);
@@ -125,7 +122,6 @@ module _ (lengths columns text : List ℕ) (width : ℕ) (counts glyphs₀ offse
           glyph_room = omega (arith, f.roomy.height_fits, f.roomy.width_fits, f.roomy.glyph_room, so_far.glyphs_kept);
           offset_room = omega (arith, f.roomy.height_fits, f.roomy.width_fits, f.roomy.offset_room, so_far.offsets_kept);
           few_separators = omega (arith, so_far.few_separators, f.roomy.height_fits);
-          separators_room = so_far.separators_room;
         }
 
     separator-is : separates y (take (at + get_or lengths y 0 - at) (drop at text)) ≡ is_separator (lines_from lengths columns text) y
@@ -137,19 +133,18 @@ module _ (lengths columns text : List ℕ) (width : ℕ) (counts glyphs₀ offse
     row_is = ap₂ (λ (t : Bool) (l : Line). line_slots (eqb y 0 || t) l) separator-is the-line
 
     -- after line y
-    module _ (glyphs' offsets' : List ℕ) (r : Filled)
-        (next : NextFilled (take (at + get_or lengths y 0 - at) (drop at text)) (get_or columns y 0) y width separators glyphs offsets glyphs' offsets' r) where
-      answer-is : r.full ≡ eqb (length (row_at (lines_from lengths columns text) y)) width
+    module _ (separators' : Separators) (glyphs' offsets' : List ℕ) (full : Bool)
+        (next : NextFilled (take (at + get_or lengths y 0 - at) (drop at text)) (get_or columns y 0) y width separators glyphs offsets separators' glyphs' offsets' full) where
+      answer-is : full ≡ eqb (length (row_at (lines_from lengths columns text) y)) width
       answer-is = next.line.answer ∙ ap (λ (l : List Slot). eqb (length l) width) row_is
 
-      next-so-far : not r.full ≡ false → SheetSoFar lengths columns text width counts glyphs₀ offsets₀ glyphs' offsets' r.separators (at + get_or lengths y 0) (y + 1)
+      next-so-far : not full ≡ false → SheetSoFar lengths columns text width counts glyphs₀ offsets₀ glyphs' offsets' separators' (at + get_or lengths y 0) (y + 1)
       next-so-far ok =
           record {
             wide = so_far.wide;
             inside = omega arith;
             bytes = sym (sum_step lengths y h ∙ rw so_far.bytes);
             few_separators = omega (arith, next.few_separators);
-            separators_room = next.separators_room;
             separated = next.noted ∙ rw (so_far.separated, separator-is, select-step);
             glyphs_kept = next.line.glyphs_kept ∙ so_far.glyphs_kept;
             offsets_kept = next.line.offsets_kept ∙ so_far.offsets_kept;
@@ -162,8 +157,8 @@ module _ (lengths columns text : List ℕ) (width : ℕ) (counts glyphs₀ offse
             row : ℕ → List Slot
             row k = row_at (lines_from lengths columns text) k
 
-            passed : r.full ≡ true
-            passed = not-false r.full ok
+            passed : full ≡ true
+            passed = not-false full ok
 
             wide : length (row_at (lines_from lengths columns text) y) ≡ width
             wide = eqb-true (length (row_at (lines_from lengths columns text) y)) width (sym answer-is ∙ passed)
@@ -199,40 +194,38 @@ module _ (lengths columns text : List ℕ) (width : ℕ) (counts glyphs₀ offse
                       };
                 }
 
-      next-wrong : not r.full ≡ true → AllFilled (grid_of (lines_from lengths columns text)) glyphs₀ offsets₀ glyphs' offsets' r
+      next-wrong : not full ≡ true → AllFilled (grid_of (lines_from lengths columns text)) glyphs₀ offsets₀ glyphs' offsets' (Err (WrongWidth y))
       unfolding grid_of
       next-wrong fails =
           record {
             glyphs_kept = next.line.glyphs_kept ∙ so_far.glyphs_kept;
             offsets_kept = next.line.offsets_kept ∙ so_far.offsets_kept;
-            wrong = λ e.
+            wrong = λ e is.
                 wrong_row (lines_from lengths columns text) y (λ k low. so_far.full k low ∙ so_far.wide) (rw lines-length h)
-                (rw (← so_far.wide) (sym answer-is ∙ wrong)) ∙ ap some (sym next.placed);
-            right = λ e. absurd (true-not-false (sym e ∙ wrong));
-            holds = λ e. absurd (true-not-false (sym e ∙ wrong));
-            few_separators = omega (arith, next.few_separators);
-            separators_room = next.separators_room;
-            separated = λ e. absurd (true-not-false (sym e ∙ wrong));
+                (rw (← so_far.wide) (sym answer-is ∙ wrong)) ∙ (let same : e ≡ WrongWidth y = cc in rw same refl);
+            number = λ e is. (let same : e ≡ WrongWidth y = cc in rw same refl);
+            right = λ s is. absurd (let z : ◌≡◌ {A = ℕ} 0 1 = cc in omega arith);
+            holds = λ s is. absurd (let z : ◌≡◌ {A = ℕ} 0 1 = cc in omega arith);
+            separated = λ s is. absurd (let z : ◌≡◌ {A = ℕ} 0 1 = cc in omega arith);
           } where
-            wrong : r.full ≡ false
-            wrong = not-true r.full fails
+            wrong : full ≡ false
+            wrong = not-true full fails
 
-  all_done : length lengths ≤ y → AllFilled (grid_of (lines_from lengths columns text)) glyphs₀ offsets₀ glyphs offsets (record { full = true; place = 0; separators = separators })
+  all_done : length lengths ≤ y → AllFilled (grid_of (lines_from lengths columns text)) glyphs₀ offsets₀ glyphs offsets (Ok separators)
   unfolding grid_of
   all_done end =
       record {
         glyphs_kept = so_far.glyphs_kept;
         offsets_kept = so_far.offsets_kept;
-        wrong = λ e. absurd (true-not-false e);
-        right = λ e. no-wrong-row (lines_from lengths columns text) (λ k low. so_far.full k (below k low) ∙ so_far.wide);
-        holds = λ e.
+        wrong = λ e is. absurd (let z : ◌≡◌ {A = ℕ} 0 1 = cc in omega arith);
+        number = λ e is. absurd (let z : ◌≡◌ {A = ℕ} 0 1 = cc in omega arith);
+        right = λ s is. no-wrong-row (lines_from lengths columns text) (λ k low. so_far.full k (below k low) ∙ so_far.wide);
+        holds = λ s is.
             record {
               glyph_row = λ k low. rw (← so_far.wide) (so_far.glyph_rows k (inside k low) ∙ ap glyph_codes (sym (row-at (lines_from lengths columns text) k (rw rows-length at low))));
               offset_row = λ k low. rw (← so_far.wide) (so_far.offset_rows k (inside k low) ∙ ap slot_bytes (sym (row-at (lines_from lengths columns text) k (rw rows-length at low))));
             };
-        few_separators = omega arith;
-        separators_room = so_far.separators_room;
-        separated = λ e. so_far.separated ∙ ap (λ (n : ℕ). select (is_separator (lines_from lengths columns text)) (up_to n)) (let q : y ≡ length (lines_from lengths columns text) = omega (arith, lines-length lengths columns text) in q);
+        separated = λ s is. (let same : s ≡ separators = cc in rw same so_far.separated) ∙ ap (λ (n : ℕ). select (is_separator (lines_from lengths columns text)) (up_to n)) (let q : y ≡ length (lines_from lengths columns text) = omega (arith, lines-length lengths columns text) in q);
       } where
         below : (k : ℕ) → k < length (lines_from lengths columns text) → k < y
         below k low = omega (arith, lines-length lengths columns text)
@@ -243,31 +236,25 @@ module _ (lengths columns text : List ℕ) (width : ℕ) (counts glyphs₀ offse
 -- ---- of every drawing that scanning left so
 module _ (lengths text : List ℕ) (width : ℕ) (counts glyphs₀ offsets₀ glyphs offsets : List ℕ) (separators : Separators) (at y : ℕ)
     (each : EachSoFar lengths text width counts glyphs₀ offsets₀ glyphs offsets separators at y) where
-  module _ (h : y < length lengths) (glyphs' offsets' : List ℕ) (r : Filled)
-      (next : FilledNext (take (at + get_or lengths y 0 - at) (drop at text)) y width (get_or counts y 0) separators glyphs offsets glyphs' offsets' r) where
-    pub sheet-next : not r.full ≡ false → EachSoFar lengths text width counts glyphs₀ offsets₀ glyphs' offsets' r.separators (at + get_or lengths y 0) (y + 1)
+  module _ (h : y < length lengths) (separators' : Separators) (glyphs' offsets' : List ℕ) (full : Bool)
+      (next : FilledNext (take (at + get_or lengths y 0 - at) (drop at text)) y width (get_or counts y 0) separators glyphs offsets separators' glyphs' offsets' full) where
+    pub sheet-next : not full ≡ false → EachSoFar lengths text width counts glyphs₀ offsets₀ glyphs' offsets' separators' (at + get_or lengths y 0) (y + 1)
     sheet-next ok columns f =
         let so_far = each columns f in
-        next-so-far lengths columns text width counts glyphs₀ offsets₀ glyphs offsets separators at y f so_far h glyphs' offsets' r
+        next-so-far lengths columns text width counts glyphs₀ offsets₀ glyphs offsets separators at y f so_far h separators' glyphs' offsets' full
         (next (get_or columns y 0) (line_known lengths columns text width counts glyphs₀ offsets₀ glyphs offsets separators at y f so_far h)) ok
 
-    pub sheet-wrong : not r.full ≡ true → FilledAll lengths text width counts glyphs₀ offsets₀ glyphs' offsets' r
+    pub sheet-wrong : not full ≡ true → FilledAll lengths text width counts glyphs₀ offsets₀ glyphs' offsets' (Err (WrongWidth y))
     sheet-wrong fails columns f =
         let so_far = each columns f in
-        next-wrong lengths columns text width counts glyphs₀ offsets₀ glyphs offsets separators at y f so_far h glyphs' offsets' r
+        next-wrong lengths columns text width counts glyphs₀ offsets₀ glyphs offsets separators at y f so_far h separators' glyphs' offsets' full
         (next (get_or columns y 0) (line_known lengths columns text width counts glyphs₀ offsets₀ glyphs offsets separators at y f so_far h)) fails
 
-  pub sheet-done : length lengths ≤ y → FilledAll lengths text width counts glyphs₀ offsets₀ glyphs offsets (record { full = true; place = 0; separators = separators })
+  pub sheet-done : length lengths ≤ y → FilledAll lengths text width counts glyphs₀ offsets₀ glyphs offsets (Ok separators)
   sheet-done end columns f = all_done lengths columns text width counts glyphs₀ offsets₀ glyphs offsets separators at y f (each columns f) end
 
   -- ---- what the loop needs of the drawing that there is
   module _ (columns : List ℕ) (f : Fillable lengths columns text width counts glyphs₀ offsets₀) where
-    pub each-short : get_or lengths y 0 < 2 ^ 64
-    each-short = omega (arith, f.sheet.short_lines y)
-
-    pub each-counted : y < length lengths → y < length counts
-    each-counted h = omega (arith, f.count_room, f.roomy.height_fits)
-
     pub each-inside : at + get_or lengths y 0 ≤ length text
     each-inside = line-inside lengths columns text width counts glyphs₀ offsets₀ glyphs offsets separators at y f (each columns f)
 

@@ -1,12 +1,13 @@
 -- Laws of an array with entries replaced.
 use Prim.Native.Nat.{ℕ, ◌+◌, ◌-◌, ◌≤◌, ◌<◌}
-use mathlib.Core.Path.{◌≡◌, refl, sym, ap, ap₂, ◌∙◌}
+use mathlib.Core.Path.{◌≡◌, sym, ap, ap₂, ◌∙◌}
 use mathlib.Core.List.{List, [], ◌∷◌, ◌++◌, append-nil, append_assoc}
 use native.Mathlib.Omega.{arith}
 use native.Mathlib.Nat.{add-zero, add_assoc}
 use native.Mathlib.Numerals.{add-one}
-use lib.ListN.{length, take, drop, set, replicate, length-append, length-take, length-drop, length-replicate, length-set, take-append-drop, replicate-append-replicate}
+use lib.ListN.{length, take, drop, set, length-append, length-take, length-drop, take-append-drop}
 use lib.Seq.{take_at, drop_at, drop-drop, take-add, set_split, length-take-le, take-append-le, take-take}
+use borrow.Rule.Slice.PartMut.{put_mid, Post-is}
 use Rattle.slots.specs.Replaced.{replaced}
 
 module _ (array : List ℕ) (at : ℕ) where
@@ -43,32 +44,11 @@ module _ (array : List ℕ) (at : ℕ) where
 pub set-replaces : (array : List ℕ) (i v : ℕ) → i < length array → set array i v ≡ replaced array i (v ∷ [])
 set-replaces array i v h = rw (add-one, append_assoc) (set_split array i v h)
 
--- i entries of v are written from `at` on
-pub record PutSoFar (at v : ℕ) (array₀ array : List ℕ) (i : ℕ) : Type 0 where
-  pub kept : length array ≡ length array₀
-  pub entries : array ≡ replaced array₀ at (replicate i v)
-
-pub put-starts : (at v : ℕ) (array : List ℕ) → PutSoFar at v array array 0
-put-starts at v array = record { kept = refl; entries = replaced-none array at }
-
-module _ (at v : ℕ) (array₀ array : List ℕ) (i count : ℕ) (so_far : PutSoFar at v array₀ array i) where
-  pub put_next : i < count → at + count ≤ length array₀ → PutSoFar at v array₀ (set array (at + i) v) (i + 1)
-  put_next h room =
-      record {
-        kept = simp length-set so_far.kept;
-        entries = set-replaces array (at + i) v (omega arith) ∙ ap (λ (a : List ℕ). replaced a (at + i) (v ∷ [])) so_far.entries ∙ joined;
-      } where
-        joined : replaced (replaced array₀ at (replicate i v)) (at + i) (v ∷ []) ≡ replaced array₀ at (replicate (i + 1) v)
-        joined =
-            ap (λ (n : ℕ). replaced (replaced array₀ at (replicate i v)) (at + n) (v ∷ [])) (sym (length-replicate i v))
-            ∙ replaced-more array₀ at (replicate i v) (rw length-replicate (omega arith)) (v ∷ [])
-            ∙ ap (replaced array₀ at) (replicate-append-replicate i 1 v)
-
-  pub put-next-is : (code : ℕ) → code ≡ v → i < count → at + count ≤ length array₀ → PutSoFar at v array₀ (set array (at + i) code) (i + 1)
-  put-next-is code e h room = rw e (put_next h room)
-
-  pub put-ends : i ≤ count → count ≤ i → array ≡ replaced array₀ at (replicate count v)
-  put-ends low high = let e : count ≡ i = omega arith in rw e so_far.entries
+-- a part written
+pub part-put : (array : List ℕ) (at n : ℕ) (part : List ℕ) → at + n ≤ length array → length part ≡ n → put_mid at (at + n - at) array part ≡ replaced array at part
+part-put array at n part room long =
+    ap (λ (l : List ℕ). take at array ++ (part ++ l)) (Post-is at (at + n) array (omega arith)) ∙ sym (append_assoc (take at array) part (drop (at + n) array))
+    ∙ ap (λ (k : ℕ). take at array ++ part ++ drop (at + k) array) (sym long)
 
 -- ---- parts of an array with entries replaced
 part-taken : (l : List ℕ) (a n : ℕ) → a + n ≤ length l → take n (drop a l) ≡ drop a (take (a + n) l)

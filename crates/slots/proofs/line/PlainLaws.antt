@@ -9,7 +9,7 @@ use lib.Dec.{eqb, ltb}
 use borrow.Author.Tests.{eq-eqb, ne_eqb, eqb-true, ltb-true}
 use Rattle.seq.specs.Lists.{range, up_to}
 use Rattle.seq.proofs.Ranges.{length-range}
-use Rattle.seq.proofs.Tests.{true-not-false, or-neither}
+use Rattle.seq.proofs.Tests.{or-neither, or_right}
 use Rattle.text.specs.declared.Column.{Column}
 use Rattle.text.specs.Utf8.{chars_from, char_indices, plain}
 use Rattle.text.proofs.PlainLaws.{plain-first, plain-rest, plain-span}
@@ -35,23 +35,21 @@ plain-count line is rule column =
     let slots = slots_from rule column (char_indices line) in
     sym (sym (length-map slots (λ (s : Slot). glyph_code s.glyph)) ∙ ap length (plain-slots rule column 0 line is).0 ∙ length-map line (λ (b : ℕ). glyph_code (glyph_of rule b)))
 
-pub plain_known : (line : List ℕ) (rule : Bool) (count : ℕ) → (rule || eqb count 255 ≡ true → plain line ≡ true) → rule || eqb count 255 ≡ true → plain line ≡ true
-plain_known line rule count is taken = is taken
+-- is a line known to be plain?
+module _ (rule : Bool) (count : ℕ) where
+  pub by-rule : rule ≡ true → rule || eqb count 255 ≡ true
+  by-rule e = rw e
+
+  pub by-count : count ≡ 255 → rule || eqb count 255 ≡ true
+  by-count e = or_right rule (eq-eqb count 255 e)
+
+  pub not-known : rule ≡ false → (count ≡ 255 → ⊥) → rule || eqb count 255 ≡ false
+  not-known e h = rw (e, ne_eqb count 255 h)
 
 -- ---- a line that is plain
 module _ (line : List ℕ) (rule : Bool) (count at : ℕ) (width columns : Column) (glyphs offsets : List ℕ)
     (is : rule || eqb count 255 ≡ true → plain line ≡ true) (taken : rule || eqb count 255 ≡ true)
     (told : columns.0 ≡ length line) where
-  pub plain-other-width : (columns.0 ≡ width.0 → ⊥) → FilledLine line rule count at width.0 glyphs offsets glyphs offsets false
-  plain-other-width h column known =
-      record {
-        glyphs_kept = refl;
-        offsets_kept = refl;
-        answer = sym (ne_eqb (length (slots_from rule column (char_indices line))) width.0 (λ e. h (told ∙ plain-count line (is taken) rule column ∙ e)));
-        glyphs_hold = λ full. absurd (true-not-false (sym full));
-        offsets_hold = λ full. absurd (true-not-false (sym full));
-      }
-
   pub plain-filled : (glyphs' offsets' : List ℕ) → columns.0 ≡ width.0 → at + width.0 ≤ length glyphs → at + width.0 ≤ length offsets
       → glyphs' ≡ replaced glyphs at (byte_codes rule line) → offsets' ≡ replaced offsets at (up_to (length line))
       → FilledLine line rule count at width.0 glyphs offsets glyphs' offsets' true

@@ -6,43 +6,20 @@ use mathlib.Core.List.{List}
 use mathlib.Core.Logic.{⊎_elim}
 use native.Mathlib.Omega.{arith}
 use native.Mathlib.Nat.{eq-or-lt_of_le}
-use lib.Dec.{eqb}
 use lib.ListN.{length, get_or, set, replicate, length-set, length-replicate, get_or-replicate}
 use lib.Seq.{get_or-set_same, get_or-set_other}
-use borrow.Author.Tests.{eqb-true}
 use Rattle.seq.proofs.Tests.{true-not-false, and_left, and_right, and_intro, or-neither}
-use Rattle.grid.specs.Slots.{horizontal, vertical, Plus, Dash, Pipe, Other}
+use Rattle.grid.specs.Slots.{horizontal, vertical}
 use Rattle.representation.specs.Arrays.{code_at, code_glyph, Roomy}
 use Rattle.representation.specs.Reach.{ReachRight, ReachDown}
 use Rattle.slots.specs.Reaching.{RunsFrom, RightRuns, DownRuns, joins_below, NoRun, LineRight, LineOf, Stepped, LineRoom}
 use Rattle.slots.proofs.reach.RunLaws.{runs_none, runs-self, runs_same, runs_on, runs-off}
 
 -- ---- glyphs as numbers
-pub horizontal-code : (code : ℕ) → eqb code 3 || eqb code 1 ≡ horizontal (code_glyph code)
-horizontal-code code = go (eqb code 3) (eqb code 2) refl where
-  go : (t u : Bool) → eqb code 2 ≡ u → t || eqb code 1 ≡ horizontal (cond t Plus (cond u Pipe (cond (eqb code 1) Dash Other)))
-  go true u e = refl
-  go false true e = rw (eqb-true code 2 e)
-  go false false e = dash (eqb code 1) where
-    dash : (v : Bool) → v ≡ horizontal (cond v Dash Other)
-    dash true = refl
-    dash false = refl
-
-pub vertical-code : (code : ℕ) → eqb code 3 || eqb code 2 ≡ vertical (code_glyph code)
-vertical-code code = go (eqb code 3) (eqb code 2) (eqb code 1) where
-  go : (t u v : Bool) → t || u ≡ vertical (cond t Plus (cond u Pipe (cond v Dash Other)))
-  go true u v = refl
-  go false true v = refl
-  go false false true = refl
-  go false false false = refl
-
 -- ---- runs of a line: no two of the first x columns are one
 pub record RunSoFar (y : ℕ) (glyphs : List ℕ) (x : ℕ) (any : Bool) : Type 0 where
   pub some : 1 ≤ x
   pub none : any ≡ false → NoRun x y glyphs
-
-pub run-starts : (y : ℕ) (glyphs : List ℕ) → RunSoFar y glyphs 1 false
-run-starts y glyphs = record { some = omega arith; none = λ e k h. absurd (omega arith) }
 
 pub run-next : (y : ℕ) (glyphs : List ℕ) (x : ℕ) (any here next : Bool) → RunSoFar y glyphs x any
     → here ≡ horizontal (code_glyph (get_or glyphs (y * 128 + x - 1) 0)) → next ≡ horizontal (code_glyph (get_or glyphs (y * 128 + x) 0))
@@ -60,30 +37,7 @@ run-next y glyphs x any here next so_far is-here is-next =
           let before : y * 128 + x - 1 ≡ y * 128 + k = omega arith in
           rw (q, ← before, ← is-here, ← is-next) e
 
-pub run_ends : (width y : ℕ) (glyphs : List ℕ) (x : ℕ) (any : Bool) → RunSoFar y glyphs x any → width ≤ x → any ≡ false → NoRun width y glyphs
-run_ends width y glyphs x any so_far h e k low = so_far.none e k (omega arith)
-
 -- ---- a line of an array, slot by slot
-pub line-of-starts : (y : ℕ) (value : ℕ → ℕ) (array : List ℕ) → LineOf 0 y value array array
-line-of-starts y value array = record { kept = refl; above = λ i h. refl; below = λ i h. refl; slots = λ x h. absurd (omega arith) }
-
-pub line-of-next : (width y x v : ℕ) (value : ℕ → ℕ) (array₀ array : List ℕ) → LineOf x y value array₀ array → x < width → width ≤ 128 → y * 128 + 128 ≤ length array₀
-    → v ≡ value x → LineOf (x + 1) y value array₀ (set array (y * 128 + x) v)
-line-of-next width y x v value array₀ array so_far h narrow room is =
-    record {
-      kept = simp length-set so_far.kept;
-      above = λ i low. get_or-set_other array (y * 128 + x) i v 0 (λ e. omega arith) ∙ so_far.above i low;
-      below = λ i high. get_or-set_other array (y * 128 + x) i v 0 (λ e. omega arith) ∙ so_far.below i high;
-      slots = λ k low.
-          ⊎_elim (λ (e : k ≡ x). rw e (get_or-set_same array (y * 128 + x) v 0 (omega (arith, so_far.kept)) ∙ is))
-          (λ (before : k < x). get_or-set_other array (y * 128 + x) (y * 128 + k) v 0 (λ e. omega arith) ∙ so_far.slots k before)
-          (eq-or-lt_of_le (let q : k ≤ x = omega arith in q));
-    }
-
-pub line-of-ends : (width y x : ℕ) (value : ℕ → ℕ) (array₀ array : List ℕ) → LineOf x y value array₀ array → width ≤ x → LineOf width y value array₀ array
-line-of-ends width y x value array₀ array so_far h =
-    record { kept = so_far.kept; above = so_far.above; below = so_far.below; slots = λ k low. so_far.slots k (omega arith) }
-
 -- ---- to the right: columns from x on are written
 pub record RightSoFar (width y : ℕ) (glyphs right₀ right : List ℕ) (x last : ℕ) (goes_on : Bool) : Type 0 where
   pub inside : x ≤ width
@@ -146,11 +100,6 @@ module _ (width y : ℕ) (glyphs right₀ right : List ℕ) (x last : ℕ) (goes
         ends = λ h. absurd (omega arith);
       }
 
-pub right-ends : (width y : ℕ) (glyphs right₀ right : List ℕ) (x last : ℕ) (goes_on : Bool)
-    → RightSoFar width y glyphs right₀ right x last goes_on → x ≤ 0 → LineRight width y glyphs right₀ right
-right-ends width y glyphs right₀ right x last goes_on so_far end =
-    let e : x ≡ 0 = omega arith in record { kept = so_far.kept; above = so_far.above; runs = rw e at so_far.runs }
-
 pub right-self : (width y : ℕ) (glyphs right right' : List ℕ) (any : Bool) → (any ≡ false → NoRun width y glyphs) → any ≡ false
     → LineOf width y (λ x. x) right right' → LineRight width y glyphs right right'
 unfolding RightRuns
@@ -193,29 +142,6 @@ module _ (height width : ℕ) (glyphs right₀ right : List ℕ) (y : ℕ) (room
       }
 
 -- ---- down
-pub joins-tested : (glyphs : List ℕ) (at : ℕ) (here next : Bool) → here ≡ vertical (code_glyph (get_or glyphs at 0)) → next ≡ vertical (code_glyph (get_or glyphs (at + 128) 0))
-    → here && next ≡ joins_below glyphs at
-joins-tested glyphs at here next is-here is-next = rw (is-here, is-next)
-
--- the first x slots of line y are stepped
-pub stepped-starts : (y : ℕ) (glyphs ends : List ℕ) → Stepped 0 y glyphs ends ends
-stepped-starts y glyphs ends = record { kept = refl; steps = λ x h. absurd (omega arith); rest = λ x h. refl }
-
-pub stepped-next : (width y x r : ℕ) (glyphs ends₀ ends : List ℕ) (on : Bool) → Stepped x y glyphs ends₀ ends → x < width → width ≤ length ends₀
-    → on ≡ joins_below glyphs (y * 128 + x) → r ≡ cond on (get_or ends x 0) y → Stepped (x + 1) y glyphs ends₀ (set ends x r)
-stepped-next width y x r glyphs ends₀ ends on so_far h room joins is =
-    record {
-      kept = simp length-set so_far.kept;
-      steps = λ k low.
-          ⊎_elim (λ (e : k ≡ x). rw e (get_or-set_same ends x r 0 (omega (arith, so_far.kept)) ∙ is ∙ rw (joins, so_far.rest x (omega arith))))
-          (λ (before : k < x). get_or-set_other ends x k r 0 (λ e. omega arith) ∙ so_far.steps k before)
-          (eq-or-lt_of_le (let q : k ≤ x = omega arith in q));
-      rest = λ k high. get_or-set_other ends x k r 0 (λ e. omega arith) ∙ so_far.rest k (omega arith);
-    }
-
-pub stepped-ends : (width y x : ℕ) (glyphs ends₀ ends : List ℕ) → Stepped x y glyphs ends₀ ends → x ≤ width → width ≤ x → Stepped width y glyphs ends₀ ends
-stepped-ends width y x glyphs ends₀ ends so_far low high = let e : x ≡ width = omega arith in rw e at so_far
-
 -- the lines from y on are written
 pub record DownRows (height width : ℕ) (glyphs down₀ down ends : List ℕ) (y : ℕ) : Type 0 where
   pub inside : y < height
@@ -284,12 +210,3 @@ module _ (height width : ℕ) (glyphs down₀ down ends : List ℕ) (y : ℕ) (s
         run = λ k x e high inside. (so_far.columns x inside).run k e (omega arith) high;
         whole = λ k x e inside. (so_far.columns x inside).whole k e (omega arith);
       }
-
-pub nothing-down : (height width : ℕ) (glyphs down : List ℕ) → height ≡ 0 → ReachDown height width glyphs down
-nothing-down height width glyphs down none =
-    record {
-      self = λ y x h. absurd (omega arith);
-      inside = λ y x h. absurd (omega arith);
-      run = λ y x e h. absurd (omega arith);
-      whole = λ y x e inside h. absurd (omega arith);
-    }

@@ -1,4 +1,5 @@
 -- Laws of scanning a line, character by character: the characters before a byte are written, in n slots (`ScanSoFar`).
+use Rattle.std.specs.Prelude.{Option, None, Some, unwrap_or}
 use Prim.Native.Nat.{ℕ, zero, suc, ◌+◌, ◌*◌, ◌^◌, ◌≤◌, ◌<◌}
 use mathlib.Core.Path.{◌≡◌, refl, sym, ap, ◌∙◌}
 use mathlib.Core.Bool.{Bool, true, false, not}
@@ -11,10 +12,9 @@ use lib.Seq.{take_at, drop_at, drop-drop, take-add, take_all, length-take-le, ge
 use borrow.Author.Tests.{ne_eqb, not-true, not-false}
 use Rattle.seq.specs.Lists.{within}
 use Rattle.seq.proofs.ListsLaws.{within_low}
-use Rattle.text.specs.declared.Decoded.TheVariants.{Character, Refused}
-use Rattle.text.specs.Characters.{columns_of, in_set, span}
+use Rattle.text.specs.Characters.{in_set, span}
 use Rattle.text.specs.Columns.{byte_columns}
-use Rattle.text.specs.Utf8.{character, chars_from, well_from, well_formed}
+use Rattle.text.specs.Utf8.{character_of, character, chars_from, well_from, well_formed}
 use Rattle.text.proofs.CharactersLaws.{ascii-in-set, ascii-one-column, span-other, span-four-columns-at-most}
 use Rattle.text.proofs.Utf8Laws.{character-one, character-past-ascii, of-bytes, chars-next, well-next, well-not, size_fits}
 use Rattle.text.proofs.KnownLaws.{between}
@@ -24,9 +24,8 @@ use Rattle.grid.specs.Slots.{Slot, glyph_of, slots_from}
 use Rattle.representation.specs.Arrays.{glyph_code, glyph_codes, slot_bytes}
 use Rattle.slots.specs.Replaced.{replaced}
 use Rattle.slots.specs.Scan.{scanned_slots, PutWithin, MarksPassed, LineScanned}
-use Rattle.slots.specs.declared.scan.Scanned.{Scanned}
-use Rattle.slots.specs.declared.scan.Scanned.TheVariants.{Columns, Outside}
-use Rattle.slots.proofs.glyphs.ReplaceLaws.{replaced-none, replaced-more, part-replaced}
+use Rattle.text.specs.declared.Column.{Column}
+use Rattle.slots.proofs.glyphs.ReplaceLaws.{replaced-more, part-replaced}
 
 map-replicate : (f : Slot → ℕ) (n : ℕ) (s : Slot) → map f (replicate n s) ≡ replicate n (f s)
 map-replicate f zero s = refl
@@ -60,9 +59,9 @@ module _ (slots rest : List Slot) (s : Slot) (n count : ℕ) (done : n ≤ lengt
         ∙ replaced-more array₀ at (map f (take n slots)) (omega (arith, done-length)) (replicate count (f s))
         ∙ ap (replaced array₀ at) (sym (slots-taken f))
 
-abbrev columns_told : Scanned → ℕ
-columns_told (Columns c) = c.0
-columns_told Outside = 0
+abbrev columns_told : Option Column → ℕ
+columns_told (Some c) = c.0
+columns_told None = 0
 
 -- the characters before `byte` are in the set, and take n slots, which are written unless there are more than 128
 pub record ScanSoFar (line : List ℕ) (first at : ℕ) (glyphs₀ offsets₀ glyphs offsets : List ℕ) (byte n : ℕ) : Type 0 where
@@ -77,22 +76,6 @@ pub record ScanSoFar (line : List ℕ) (first at : ℕ) (glyphs₀ offsets₀ gl
   pub offsets_before : take at offsets ≡ take at offsets₀
   pub glyphs_hold : n ≤ 128 → glyphs ≡ replaced glyphs₀ at (glyph_codes (take n (scanned_slots line first)))
   pub offsets_hold : n ≤ 128 → offsets ≡ replaced offsets₀ at (slot_bytes (take n (scanned_slots line first)))
-
-pub scan-starts : (line : List ℕ) (first at : ℕ) (glyphs offsets : List ℕ) → ScanSoFar line first at glyphs offsets glyphs offsets 0 0
-scan-starts line first at glyphs offsets =
-    record {
-      in_line = omega arith;
-      well = refl;
-      few = omega arith;
-      inside = omega arith;
-      left = rw (add-zero first);
-      glyphs_kept = refl;
-      offsets_kept = refl;
-      glyphs_before = refl;
-      offsets_before = refl;
-      glyphs_hold = λ h. replaced-none glyphs at;
-      offsets_hold = λ h. replaced-none offsets at;
-    }
 
 -- all characters past ASCII have one glyph
 past_ascii : (v w : ℕ) → 0x80 ≤ v → 0x80 ≤ w → glyph_of false v ≡ glyph_of false w
@@ -110,7 +93,7 @@ past_ascii v w high high' =
 -- the character at a byte has so many bytes and, from this column on, so many columns, and the glyph of its first byte a
 record First (line : List ℕ) (byte column a size count : ℕ) : Type 0 where
   pub value : ℕ
-  pub is : character (drop byte line) ≡ Character value size
+  pub is : character (drop byte line) ≡ Some (character_of value size)
   pub spans : count ≡ span column value
   pub glyph : glyph_of false a ≡ glyph_of false value
 
@@ -121,31 +104,31 @@ module _ (line : List ℕ) (byte column a : ℕ) (here : a ≡ get_or line byte 
       let (low, high) = between 0x20 0x7e a (sym told ∙ is-in) in
       record {
         value = a;
-        is = sym (character-one line byte a true (Character a 1) here (omega arith) (sym (ascii-in-set a low high)) refl);
-        spans = sym (span-other column a (λ e. omega arith) ∙ ap columns_of (ascii-one-column a low high));
+        is = sym (character-one line byte a true (Some (character_of a 1)) here (omega arith) (sym (ascii-in-set a low high)) refl);
+        spans = sym (span-other column a (λ e. omega arith) ∙ ap (λ (w : Option ℕ). unwrap_or w 0) (ascii-one-column a low high));
         glyph = refl;
       }
 
   first-ascii : (t : Bool) (count : ℕ) → a < 0x80 → t ≡ in_set a → not t ≡ false → count ≡ span column a → First line byte column a 1 count
   first-ascii t count low told stands spans =
-      record { value = a; is = sym (character-one line byte a true (Character a 1) here low (sym (not-false t stands) ∙ told) refl); spans = spans; glyph = refl }
+      record { value = a; is = sym (character-one line byte a true (Some (character_of a 1)) here low (sym (not-false t stands) ∙ told) refl); spans = spans; glyph = refl }
 
-  several : (v size : ℕ) → 2 ≤ size → character (drop byte line) ≡ Character v size → 0x80 ≤ a → (count : ℕ) → byte_columns a ≡ count → First line byte column a size count
+  several : (v size : ℕ) → 2 ≤ size → character (drop byte line) ≡ Some (character_of v size) → 0x80 ≤ a → (count : ℕ) → byte_columns a ≡ count → First line byte column a size count
   several v size many is high count adds =
       let start : get_or (drop byte line) 0 0 ≡ a = simp (get_or-drop, add-zero) (sym here) in
-      let past = character-past-ascii (drop byte line) v size is many in
+      let past = character-past-ascii (drop byte line) (character_of v size) is many in
       record {
         value = v;
         is = is;
-        spans = sym adds ∙ ap byte_columns (sym start) ∙ byte_columns-span (drop byte line) v size is column (λ e. omega arith);
+        spans = sym adds ∙ ap byte_columns (sym start) ∙ byte_columns-span (drop byte line) (character_of v size) is column (λ e. omega arith);
         glyph = past_ascii a v high past;
       }
 
-  first-high : (v : ℕ) → character (drop byte line) ≡ Character v 2 → 0xc0 ≤ a
+  first-high : (v : ℕ) → character (drop byte line) ≡ Some (character_of v 2) → 0xc0 ≤ a
   first-high v is =
       let start : get_or (drop byte line) 0 0 ≡ a = simp (get_or-drop, add-zero) (sym here) in
       ⊎_elim (λ h. absurd (omega arith)) (⊎_elim (λ h. omega (arith, start, within_low 0xc0 0xdf (get_or (drop byte line) 0 0) h.2)) (λ h. absurd (omega arith)))
-      (of-bytes (drop byte line) v 2 is).bytes
+      (of-bytes (drop byte line) (character_of v 2) is).bytes
 
   module _ (t : Bool) (stands : not t ≡ false) where
     first-narrow : Whole line byte 2 t → 0x80 ≤ a → a < 0xcc → First line byte column a 2 1
@@ -170,9 +153,9 @@ module _ (line : List ℕ) (byte : ℕ) (m : MarkAt line byte) where
       let f = first-of-mark 0 in
       record {
         forward = omega arith;
-        in_line = (size_fits line byte f.value 2 f.is).1;
-        well = well-next line byte f.value 2 f.is;
-        slotless = λ column. let g = first-of-mark column in rw (chars-next line byte g.value 2 g.is, ← g.spans, add-zero column);
+        in_line = (size_fits line byte (character_of f.value 2) f.is).1;
+        well = well-next line byte (character_of f.value 2) f.is;
+        slotless = λ column. let g = first-of-mark column in rw (chars-next line byte (character_of g.value 2) g.is, ← g.spans, add-zero column);
       }
 
 pub none_passed : (line : List ℕ) (at : ℕ) → at ≤ length line → MarksPassed line at at
@@ -195,7 +178,7 @@ module _ (line : List ℕ) (first at : ℕ) (glyphs₀ offsets₀ glyphs offsets
   module _ {a size count : ℕ} (f : First line byte (first + n) a size count) where
     next : drop n (scanned_slots line first) ≡ replicate count (record { glyph = glyph_of false f.value; byte = byte }) ++ slots_from false (first + (n + count)) (chars_from (byte + size) 0 (drop (byte + size) line))
     unfolding slots_from
-    next = so_far.left ∙ rw (chars-next line byte f.value size f.is, ← f.spans, add_assoc)
+    next = so_far.left ∙ rw (chars-next line byte (character_of f.value size) f.is, ← f.spans, add_assoc)
 
     scan-next : (glyphs' offsets' : List ℕ) → at + 128 ≤ length glyphs₀ → at + 128 ≤ length offsets₀ → PutWithin at n count a byte glyphs offsets glyphs' offsets'
         → ScanSoFar line first at glyphs₀ offsets₀ glyphs' offsets' (byte + size) (n + count)
@@ -204,9 +187,9 @@ module _ (line : List ℕ) (first at : ℕ) (glyphs₀ offsets₀ glyphs offsets
         let slot : Slot = record { glyph = glyph_of false f.value; byte = byte } in
         let rest = slots_from false (first + (n + count)) (chars_from (byte + size) 0 (drop (byte + size) line)) in
         record {
-          in_line = (size_fits line byte f.value size f.is).1;
-          well = so_far.well ∙ well-next line byte f.value size f.is;
-          few = omega (arith, so_far.few, f.spans, span-four-columns-at-most (first + n) f.value, size_fits line byte f.value size f.is);
+          in_line = (size_fits line byte (character_of f.value size) f.is).1;
+          well = so_far.well ∙ well-next line byte (character_of f.value size) f.is;
+          few = omega (arith, so_far.few, f.spans, span-four-columns-at-most (first + n) f.value, size_fits line byte (character_of f.value size) f.is);
           inside = slots-inside slots rest slot n count so_far.inside next;
           left = slots-left slots rest slot n count so_far.inside next;
           glyphs_kept = put.glyphs_kept ∙ so_far.glyphs_kept;
@@ -258,7 +241,7 @@ module _ (line : List ℕ) (first at : ℕ) (glyphs₀ offsets₀ glyphs offsets
       }
 
   pub marks-room : {size : ℕ} (t : Bool) → not t ≡ false → Whole line byte size t → byte + size ≤ length line
-  marks-room {size} t stands w = let (v, is) = w.whole (not-false t stands) in (size_fits line byte v size is).1
+  marks-room {size} t stands w = let (v, is) = w.whole (not-false t stands) in (size_fits line byte (character_of v size) is).1
 
   -- a mark, and those that follow it
   pub next_marks : (a : ℕ) → a ≡ get_or line byte 0 → (t : Bool) → not t ≡ false → Whole line byte 2 t → 0xcc ≤ a → a < 0xe0
@@ -271,7 +254,7 @@ module _ (line : List ℕ) (first at : ℕ) (glyphs₀ offsets₀ glyphs offsets
   count_fits column a count spans short = omega (arith, so_far.few, so_far.in_line, spans, span-four-columns-at-most column a)
 
   -- ---- no character of the set, and the line's end
-  outside : character (drop byte line) ≡ Refused → byte < length line → LineScanned line first at glyphs₀ offsets₀ glyphs offsets Outside
+  outside : character (drop byte line) ≡ None → byte < length line → LineScanned line first at glyphs₀ offsets₀ glyphs offsets None
   outside is inside =
       record {
         glyphs_kept = so_far.glyphs_kept;
@@ -284,12 +267,12 @@ module _ (line : List ℕ) (first at : ℕ) (glyphs₀ offsets₀ glyphs offsets
         outside = λ e. so_far.well ∙ well-not line byte is inside;
       }
 
-  pub scan-outside : {size : ℕ} (t : Bool) → Whole line byte size t → not t ≡ true → byte < length line → LineScanned line first at glyphs₀ offsets₀ glyphs offsets Outside
+  pub scan-outside : {size : ℕ} (t : Bool) → Whole line byte size t → not t ≡ true → byte < length line → LineScanned line first at glyphs₀ offsets₀ glyphs offsets None
   scan-outside t w missing inside = outside (w.none (not-true t missing)) inside
 
   pub scan-control : (a : ℕ) (t : Bool) → a ≡ get_or line byte 0 → a < 0x80 → t ≡ in_set a → not t ≡ true → byte < length line
-      → LineScanned line first at glyphs₀ offsets₀ glyphs offsets Outside
-  scan-control a t here low told missing inside = outside (sym (character-one line byte a false Refused here low (sym (not-true t missing) ∙ told) refl)) inside
+      → LineScanned line first at glyphs₀ offsets₀ glyphs offsets None
+  scan-control a t here low told missing inside = outside (sym (character-one line byte a false None here low (sym (not-true t missing) ∙ told) refl)) inside
 
   left-of : (array₀ array : List ℕ) (f : Slot → ℕ) → at + 128 ≤ length array₀ → length (scanned_slots line first) ≤ 128
       → take n (scanned_slots line first) ≡ scanned_slots line first → array ≡ replaced array₀ at (map f (take n (scanned_slots line first)))
@@ -299,7 +282,7 @@ module _ (line : List ℕ) (first at : ℕ) (glyphs₀ offsets₀ glyphs offsets
       ap (λ (l : List ℕ). take (length slots) (drop at l)) (put ∙ ap (λ (l : List Slot). replaced array₀ at (map f l)) whole)
       ∙ part-replaced array₀ at (map f slots) (omega (arith, length-map slots f)) (length slots) (length-map slots f)
 
-  pub scan-ends : length line ≤ byte → at + 128 ≤ length glyphs₀ → at + 128 ≤ length offsets₀ → LineScanned line first at glyphs₀ offsets₀ glyphs offsets (Columns (record { 0 = n }))
+  pub scan-ends : length line ≤ byte → at + 128 ≤ length glyphs₀ → at + 128 ≤ length offsets₀ → LineScanned line first at glyphs₀ offsets₀ glyphs offsets (Some (record { 0 = n }))
   unfolding chars_from slots_from well_from
   scan-ends end room room' =
       let slots = scanned_slots line first in
@@ -322,8 +305,5 @@ module _ (line : List ℕ) (first at : ℕ) (glyphs₀ offsets₀ glyphs offsets
       }
 
 -- ---- what the code's tests say
-pub in_set-known : (a : ℕ) (t : Bool) → t ≡ in_set a → not t ≡ false → in_set a ≡ true
-in_set-known a t told stands = sym told ∙ not-false t stands
-
 pub span-few : (column a count : ℕ) → count ≡ span column a → count ≤ 4
 span-few column a count spans = omega (arith, spans, span-four-columns-at-most column a)

@@ -5,9 +5,9 @@ use mathlib.Core.Bool.{Bool, true, false, cond}
 use mathlib.Core.List.{List}
 use native.Mathlib.Omega.{arith}
 use lib.Dec.{ltb}
-use lib.ListN.{length, take, set, replicate, length-replicate, length-set}
+use lib.ListN.{length, take, set, length-set}
 use lib.Seq.{get_or-set_same, get_or-set_other}
-use borrow.Author.Tests.{lt-ltb, le-ltb, ltb-false}
+use borrow.Author.Tests.{ltb-false}
 use Rattle.seq.proofs.Tests.{true-not-false}
 use Rattle.text.specs.declared.Column.{Column}
 use Rattle.text.specs.Trim.{trim_end}
@@ -15,33 +15,12 @@ use Rattle.text.specs.Utf8.{well_formed, plain}
 use Rattle.text.proofs.PlainLaws.{plain-well}
 use Rattle.text.proofs.TrimLaws.{trim-shorter}
 use Rattle.text.proofs.TrimmedLaws.{well_formed-trim}
-use Rattle.grid.specs.Slots.{glyph_of}
 use Rattle.grid.specs.LayoutCall.{slot_space}
-use Rattle.representation.specs.Arrays.{glyph_code}
-use Rattle.slots.specs.Replaced.{replaced}
 use Rattle.slots.specs.Scan.{scanned_slots, PutWithin, LineScanned, clipped, LineKnown, NextScanned}
-use Rattle.slots.specs.declared.scan.Scanned.{Scanned}
-use Rattle.slots.specs.declared.scan.Scanned.TheVariants.{Columns, Outside}
-use Rattle.slots.proofs.glyphs.ReplaceLaws.{length-replaced, part-before, part-kept}
+use Rattle.std.specs.Prelude.{Option, Some, None}
+use Rattle.slots.proofs.glyphs.ReplaceLaws.{part-kept}
 
 -- ---- slots of one character
-module _ (at n count value byte : ℕ) (glyphs offsets glyphs' offsets' : List ℕ) where
-  pub put-fits : n + count ≤ 128 → at + 128 ≤ length glyphs → at + 128 ≤ length offsets
-      → glyphs' ≡ replaced glyphs (at + n) (replicate count (glyph_code (glyph_of false value))) → offsets' ≡ replaced offsets (at + n) (replicate count byte)
-      → PutWithin at n count value byte glyphs offsets glyphs' offsets'
-  put-fits fits room room' put put' =
-      let v = glyph_code (glyph_of false value) in
-      let inside : at + n + length (replicate count v) ≤ length glyphs = omega (arith, length-replicate count v) in
-      let inside' : at + n + length (replicate count byte) ≤ length offsets = omega (arith, length-replicate count byte) in
-      record {
-        glyphs_kept = ap length put ∙ length-replaced glyphs (at + n) (replicate count v) inside;
-        offsets_kept = ap length put' ∙ length-replaced offsets (at + n) (replicate count byte) inside';
-        glyphs_before = rw put (part-before glyphs (at + n) (replicate count v) inside 0 at (omega arith));
-        offsets_before = rw put' (part-before offsets (at + n) (replicate count byte) inside' 0 at (omega arith));
-        glyphs_put = λ h. put;
-        offsets_put = λ h. put';
-      }
-
 pub put-over : (at n count value byte : ℕ) (glyphs offsets : List ℕ) → 128 < n + count → PutWithin at n count value byte glyphs offsets glyphs offsets
 put-over at n count value byte glyphs offsets over =
     record {
@@ -54,12 +33,6 @@ put-over at n count value byte glyphs offsets over =
     }
 
 -- ---- a number of slots, more than 128 as 129
-pub clipped-many : (n : ℕ) → 128 < n → 129 ≡ clipped n
-clipped-many n h = rw (lt-ltb 128 n h)
-
-pub clipped-few : (n : ℕ) → n ≤ 128 → n ≡ clipped n
-clipped-few n h = rw (le-ltb 128 n h)
-
 clipped-small : (n : ℕ) → clipped n ≡ 255 → ⊥
 clipped-small n e = go (ltb 128 n) refl e where
   go : (t : Bool) → ltb 128 n ≡ t → cond t 129 n ≡ 255 → ⊥
@@ -67,9 +40,6 @@ clipped-small n e = go (ltb 128 n) refl e where
   go false is e = omega (arith, ltb-false 128 n is)
 
 -- ---- a line
-pub known-plain : (text : List ℕ) (t : Bool) → (t ≡ true → plain text ≡ true) → t ≡ true → true ≡ plain text
-known-plain text t known taken = sym (known taken)
-
 module _ (text : List ℕ) (column y : ℕ) (glyphs offsets counts : List ℕ) (low : y < 128) (room : 128 ≤ length counts) where
   inside : y < length counts
   inside = omega arith
@@ -90,8 +60,8 @@ module _ (text : List ℕ) (column y : ℕ) (glyphs offsets counts : List ℕ) (
         };
       }
 
-  module _ (line glyphs' offsets' : List ℕ) (r : Scanned) (trimmed : line ≡ trim_end text) (scanned : LineScanned line column (y * 128) glyphs offsets glyphs' offsets' r) where
-    pub outside-scanned : r ≡ Outside → NextScanned text column y glyphs offsets counts glyphs' offsets' counts false
+  module _ (line glyphs' offsets' : List ℕ) (r : Option Column) (trimmed : line ≡ trim_end text) (scanned : LineScanned line column (y * 128) glyphs offsets glyphs' offsets' r) where
+    pub outside-scanned : r ≡ None → NextScanned text column y glyphs offsets counts glyphs' offsets' counts false
     outside-scanned e =
         record {
           glyphs_kept = scanned.glyphs_kept;
@@ -104,7 +74,7 @@ module _ (text : List ℕ) (column y : ℕ) (glyphs offsets counts : List ℕ) (
           known = λ h. absurd (true-not-false (sym h));
         }
 
-    pub columns-scanned : (n : Column) (count : ℕ) → r ≡ Columns n → count ≡ clipped n.0 → NextScanned text column y glyphs offsets counts glyphs' offsets' (set counts y count) true
+    pub columns-scanned : (n : Column) (count : ℕ) → r ≡ Some n → count ≡ clipped n.0 → NextScanned text column y glyphs offsets counts glyphs' offsets' (set counts y count) true
     columns-scanned n count e told =
         record {
           glyphs_kept = scanned.glyphs_kept;

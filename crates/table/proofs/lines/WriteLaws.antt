@@ -1,7 +1,7 @@
 -- Laws of the loop that writes the lines of all cells.
 use Prim.Native.Nat.{ℕ, ◌+◌, ◌*◌, ◌≤◌, ◌<◌}
-use mathlib.Core.Path.{◌≡◌, refl, sym, ap, ◌∙◌}
-use mathlib.Core.List.{List, [], ◌∷◌, ◌++◌, map, flat_map, map-append, Memᴰ}
+use mathlib.Core.Path.{◌≡◌, refl, sym, ap, ◌∙◌, subst}
+use mathlib.Core.List.{List, [], ◌∷◌, ◌++◌, map, flat_map, map-append}
 use native.Mathlib.Omega.{arith}
 use native.Mathlib.Nat.{zero-add}
 use lib.ListN.{length, take, drop, get_or, length-map}
@@ -15,7 +15,7 @@ use Rattle.grid.specs.Flat.{join_text}
 use Rattle.representation.specs.Arrays.{rects_of, rect_in}
 use Rattle.representation.proofs.RectsLaws.{length-rects, get_or-rects}
 use Rattle.representation.proofs.HeldLaws.{no_rect, rect-holds}
-use Rattle.cell.specs.Text.{Source, kept_lines, all_lines, Cuttable, Framed, CountedBy, most_text}
+use Rattle.cell.specs.Text.{Source, kept_lines, all_lines, Cuttable, Framed, AllFramed, CountedBy, most_text}
 use Rattle.cell.proofs.pieces.LineLaws.{kept-inner, kept-cuts}
 use Rattle.cell.proofs.pieces.TotalLaws.{counted-here}
 use Rattle.cell.proofs.lines.WriteLaws.{pieces}
@@ -27,7 +27,7 @@ map-flat_map f g [] = refl
 map-flat_map f g (a ∷ l) = rw (map-flat_map f g l) (sym (map-append f (g a) (flat_map g l)))
 
 pub record TextWritten (s : Source) (rects : List ℕ) (n : ℕ) (counts lengths text : List ℕ) (k line byte : ℕ) (lengths' text' : List ℕ) : Type 0 where
-  pub framed : (r : Rect) → Memᴰ r (rects_of n rects) → Framed s r
+  pub framed : AllFramed s (rects_of n rects)
   pub counted : CountedBy (λ r. length (kept_lines s r)) (rects_of n rects) counts
   pub line_room : length (all_lines s (rects_of n rects)) ≤ length lengths
   pub byte_room : length (join_text (all_lines s (rects_of n rects))) ≤ length text
@@ -51,7 +51,7 @@ module _ (s : Source) (rects : List ℕ) (n : ℕ) (counts lengths text : List �
   all-text : flat_map text_of (rects_of n rects) ≡ join_text (all_lines s (rects_of n rects))
   all-text = sym (flat_map-flat_map (λ (t : List ℕ). t) (kept_lines s) (rects_of n rects))
 
-  pub no-cell-lines : ((r : Rect) → Memᴰ r (rects_of n rects) → Framed s r) → CountedBy (λ r. length (kept_lines s r)) (rects_of n rects) counts
+  pub no-cell-lines : AllFramed s (rects_of n rects) → CountedBy (λ r. length (kept_lines s r)) (rects_of n rects) counts
       → length (all_lines s (rects_of n rects)) ≤ length lengths → length (join_text (all_lines s (rects_of n rects))) ≤ length text
       → length (join_text (all_lines s (rects_of n rects))) ≤ most_text → TextWritten s rects n counts lengths text 0 0 0 lengths text
   unfolding flat_map
@@ -70,37 +70,36 @@ module _ (s : Source) (rects : List ℕ) (n : ℕ) (counts lengths text : List �
       }
 
   module _ (k line byte : ℕ) (lengths' text' : List ℕ) (w : TextWritten s rects n counts lengths text k line byte lengths' text') where
-    module _ (h : k < n) where
-      abbrev cell : Rect
-      cell = rect_in rects k
+    pub count-inside : k < n → k < length counts
+    count-inside h = omega (arith, w.counted.0, length-rects n rects)
 
+    module _ (h : k < n) {cell : Rect} (held : cell ≡ rect_in rects k) where
       abbrev cell_pieces : List (List ℕ)
-      cell_pieces = pieces s (get_or rects (4 * k) 0) (get_or rects (4 * k + 1) 0) (get_or rects (4 * k + 3) 0) (get_or counts k 0)
+      cell_pieces = pieces s cell (get_or counts k 0)
+
+      rect-here : get_or (rects_of n rects) k no_rect ≡ cell
+      rect-here = get_or-rects n k rects no_rect h ∙ sym held
 
       cell-framed : Framed s cell
-      cell-framed = rect-holds (Framed s) rects n k h w.framed
+      cell-framed = subst (Framed s) (sym held) (rect-holds (Framed s) rects n k h w.framed)
 
       cell-count : get_or counts k 0 ≡ length (kept_lines s cell)
-      cell-count = counted-here (λ r. length (kept_lines s r)) rects n counts k w.counted h
+      cell-count = counted-here (λ r. length (kept_lines s r)) rects n counts k w.counted h ∙ ap (λ r. length (kept_lines s r)) (sym held)
 
       -- the lines that are written are those that are kept
       cell-pieces : cell_pieces ≡ kept_lines s cell
       cell-pieces = rw cell-count (sym (kept-cuts s cell))
 
       lengths-here : lengths_of (get_or (rects_of n rects) k no_rect) ≡ map length cell_pieces
-      lengths-here = rw (get_or-rects n k rects no_rect h, cell-pieces)
+      lengths-here = rw (rect-here, cell-pieces)
 
       text-here : text_of (get_or (rects_of n rects) k no_rect) ≡ join_text cell_pieces
-      text-here = rw (get_or-rects n k rects no_rect h, cell-pieces)
+      text-here = rw (rect-here, cell-pieces)
 
       length-here : length (lengths_of (get_or (rects_of n rects) k no_rect)) ≡ get_or counts k 0
-      length-here = rw (get_or-rects n k rects no_rect h, cell-count) (length-map (kept_lines s cell) length)
+      length-here = rw (rect-here, cell-count) (length-map (kept_lines s cell) length)
 
-      pub count-inside : k < length counts
-      count-inside = omega (arith, w.counted.0, length-rects n rects)
-
-      pub cell-cuttable : (y : ℕ) → get_or rects (4 * k) 0 < y → y ≤ get_or rects (4 * k) 0 + get_or counts k 0
-          → Cuttable s (get_or rects (4 * k + 1) 0) (get_or rects (4 * k + 3) 0) y
+      pub cell-cuttable : (y : ℕ) → cell.top < y → y ≤ cell.top + get_or counts k 0 → Cuttable s cell.left cell.right y
       cell-cuttable y low high = cell-framed.borders y low (omega (arith, cell-count, kept-inner s cell, cell-framed.inside.down))
 
       line-place : line + get_or counts k 0 ≡ length (flat_map lengths_of (take (k + 1) (rects_of n rects)))

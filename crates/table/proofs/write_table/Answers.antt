@@ -1,48 +1,47 @@
 -- `table::write_table` meets its contract: the parts are found, then the four writers in turn, each on its own arrays.
-use borrow.Author.Rules.{rules}
-use Rattle.table.proofs.FinishLaws.{writable-some-line, writable-rows-rise, writable-columns-rise, writable-some-row, writable-some-column, writable-columns-low, writable-cells, writable-text, writable-head-line, writable-head-low, writable-written}
+use Rattle.cell.proofs.FrameLaws.{traced-framed}
+use Rattle.reading.proofs.SheetLaws.{traced-some, traced-room, traced-edges}
+use Rattle.layout.proofs.FoundLaws.{parts-head-line, rects-found-numbered}
+use Rattle.table.proofs.FinishLaws.{writable-head-low, writable-count-room, writable-written}
 use Rattle.table.proofs.write_table.Goals as goal
 
+pub invariant_of-rects : goal.invariant_of-rects
+invariant_of-rects c =
+    let t = c.args.traced.traced in
+    record { few = t.through.few; room = traced-room _ _ t; low = traced-edges _ _ t }
+
+pub invariant_of-source : goal.invariant_of-source
+invariant_of-source c = record { ready = c.requires.ready }
+
+pub write_text-requires-clause-framed : goal.write_text-requires-clause-framed
+write_text-requires-clause-framed c = traced-framed _ _ c.args.traced.traced _
+
 pub find_parts-parts-requires : goal.find_parts-parts-requires
-find_parts-parts-requires c = search (rules, writable-some-line)
+find_parts-parts-requires c = traced-some _ _ c.args.traced.traced
 
-pub trimmed_line-line-requires : goal.trimmed_line-line-requires
-trimmed_line-line-requires c = (c.requires.traced.sheet.bytes_agree, writable-head-line c.requires _ c.find_parts-parts.ensures)
+pub trimmed_line-requires : goal.trimmed_line-requires
+trimmed_line-requires c =
+    let t = c.args.traced.traced in
+    (t.sheet.bytes_agree, parts-head-line t _ (c.find_parts-parts.ensures.head, c.find_parts-parts.ensures.foot))
 
-pub write_columns-requires-clause-rising : goal.write_columns-requires-clause-rising
-write_columns-requires-clause-rising c = search (rules, writable-columns-rise, writable-some-column, writable-columns-low, writable-head-low)
+pub invariant_of-line : goal.invariant_of-line
+invariant_of-line c =
+    let t = c.args.traced.traced in
+    record {
+      glyph_room = t.roomy.glyph_room;
+      offset_room = t.roomy.offset_room;
+      low = writable-head-low t c.requires _ (c.find_parts-parts.ensures.head, c.find_parts-parts.ensures.foot);
+    }
 
-pub write_columns-requires-clause-by_index : goal.write_columns-requires-clause-by_index
-write_columns-requires-clause-by_index c = search (rules, writable-columns-rise, writable-some-column, writable-columns-low, writable-head-low)
-
-pub write_columns-requires-clause-slot_space_in_bounds : goal.write_columns-requires-clause-slot_space_in_bounds
-write_columns-requires-clause-slot_space_in_bounds c = search (rules, writable-columns-rise, writable-some-column, writable-columns-low, writable-head-low)
-
-pub write_sections-requires : goal.write_sections-requires
-write_sections-requires c = search (rules, writable-rows-rise, writable-some-row)
-
-pub write_table_cells-requires-clause-n_bound : goal.write_table_cells-requires-clause-n_bound
-write_table_cells-requires-clause-n_bound c = (writable-cells c.requires).0
-
-pub write_table_cells-requires-clause-index_len : goal.write_table_cells-requires-clause-index_len
-write_table_cells-requires-clause-index_len c = (writable-cells c.requires).1.0
-
-pub write_table_cells-requires-clause-numbered : goal.write_table_cells-requires-clause-numbered
-write_table_cells-requires-clause-numbered c = (writable-cells c.requires).1.1
-
-pub write_text-requires-clause-source_ready : goal.write_text-requires-clause-source_ready
-write_text-requires-clause-source_ready c = (writable-text c.requires).0
-
-pub write_text-requires-clause-fact : goal.write_text-requires-clause-fact
-write_text-requires-clause-fact c = (writable-text c.requires).1.0
-
-pub write_text-requires-clause-fact_2 : goal.write_text-requires-clause-fact_2
-write_text-requires-clause-fact_2 c = (writable-text c.requires).1.1.0
-
-pub write_text-requires-clause-fact_3 : goal.write_text-requires-clause-fact_3
-write_text-requires-clause-fact_3 c = (writable-text c.requires).1.1.1
+pub write_table_cells-requires : goal.write_table_cells-requires
+write_table_cells-requires c =
+    record {
+      room = c.requires.cell_room;
+      count_room = writable-count-room c.args.traced.traced c.requires;
+      numbered = rects-found-numbered c.args.traced.traced c.requires.rows_found c.requires.columns_found;
+    }
 
 pub returns : goal.returns
 returns c =
-    writable-written c.requires _ c.find_parts-parts.ensures c.trimmed_line-line.ensures
-    c.write_columns.ensures c.write_sections.ensures c.write_table_cells.ensures c.write_text.ensures
+    writable-written c.args.traced.traced c.requires _ (c.find_parts-parts.ensures.head, c.find_parts-parts.ensures.foot) c.trimmed_line.ensures
+    c.write_columns.ensures c.write_sections.ensures c.write_table_cells.ensures c.write_text.ensures.lengths_written c.write_text.ensures.text_written

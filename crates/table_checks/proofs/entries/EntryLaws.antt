@@ -22,62 +22,60 @@ entries-step numbers step at zero more = absurd (omega arith)
 entries-step numbers step at (suc left) more =
     let e : suc left - 1 ≡ left = omega arith in rw (e, get_or-drop at numbers 0 0, add-zero at, drop-drop step at numbers)
 
-entries-end : (numbers : List ℕ) (step at left : ℕ) → left ≤ 0 → entries at step left numbers ≡ entries at step 0 numbers
-entries-end numbers step at left done = let e : left ≡ 0 = omega arith in rw e
-
 -- all of an array
 pub entries-all : (numbers : List ℕ) → entries 0 1 (length numbers) numbers ≡ numbers
 unfolding every_nth
 entries-all [] = refl
 entries-all (n ∷ numbers) = ap (λ (l : List ℕ). n ∷ l) (entries-all numbers)
 
--- ---- where they stand
-module _ (numbers : List ℕ) (from step count at left : ℕ) (placed : at + step * left ≡ from + step * count) (more : 0 < left) where
-  one_less : step * left ≡ step * (left - 1) + step
-  one_less = let e : left ≡ suc (left - 1) = omega arith in ap (λ (k : ℕ). step * k) e ∙ mul-suc step (left - 1)
-
-  pub entry-inside : from < step → step * count ≤ length numbers → at < length numbers
-  entry-inside low fits = omega (arith, one_less)
-
-  pub entry_next : at + step + step * (left - 1) ≡ from + step * count
-  entry_next = omega (arith, one_less)
-
 -- ---- one over a limit
-module _ (limit : ℕ) (numbers : List ℕ) (from step count at left : ℕ)
-    (passed : any_over limit (entries from step count numbers) ≡ any_over limit (entries at step left numbers)) where
-  pub over-here : 0 < left → limit < get_or numbers at 0 → true ≡ any_over limit (entries from step count numbers)
-  unfolding any_over any
-  over-here more over = rw (passed, entries-step numbers step at left more, lt-ltb limit (get_or numbers at 0) over)
+-- the entries from entry k on
+abbrev later : (from step count k : ℕ) → List ℕ → List ℕ
+later from step count k numbers = entries (step * k + from) step (count - k) numbers
 
-  pub not-over-here : 0 < left → get_or numbers at 0 ≤ limit
-      → any_over limit (entries from step count numbers) ≡ any_over limit (entries (at + step) step (left - 1) numbers)
-  unfolding any_over any
-  not-over-here more under = passed ∙ rw (entries-step numbers step at left more, le-ltb limit (get_or numbers at 0) under)
+later-step : (from step count k : ℕ) (numbers : List ℕ) → k < count
+    → later from step count k numbers ≡ get_or numbers (step * k + from) 0 ∷ later from step count (k + 1) numbers
+later-step from step count k numbers h =
+    let here = entries-step numbers step (step * k + from) (count - k) (omega arith) in
+    let place : step * k + from + step ≡ step * (k + 1) + from = omega (arith, mul-suc step k) in
+    let left : count - k - 1 ≡ count - (k + 1) = omega arith in
+    rw (place, left) at here
 
-  pub none_over : left ≤ 0 → false ≡ any_over limit (entries from step count numbers)
+module _ (limit : ℕ) (numbers : List ℕ) (from step count k : ℕ)
+    (passed : any_over limit (entries from step count numbers) ≡ any_over limit (later from step count k numbers)) where
+  pub over-here : k < count → limit < get_or numbers (step * k + from) 0 → true ≡ any_over limit (entries from step count numbers)
+  unfolding any_over any
+  over-here h over = rw (passed, later-step from step count k numbers h, lt-ltb limit (get_or numbers (step * k + from) 0) over)
+
+  pub not-over-here : k < count → get_or numbers (step * k + from) 0 ≤ limit
+      → any_over limit (entries from step count numbers) ≡ any_over limit (later from step count (k + 1) numbers)
+  unfolding any_over any
+  not-over-here h under = passed ∙ rw (later-step from step count k numbers h, le-ltb limit (get_or numbers (step * k + from) 0) under)
+
+  pub none_over : count ≤ k → false ≡ any_over limit (entries from step count numbers)
   unfolding any_over any every_nth
-  none_over done = sym (passed ∙ rw (entries-end numbers step at left done))
+  none_over done = let none : count - k ≡ 0 = omega arith in sym (passed ∙ rw none)
 
 -- ---- their sum, counted down
-module _ (total : ℕ) (numbers : List ℕ) (from step count at left missing : ℕ)
-    (counted : eqb (sum (entries from step count numbers)) total ≡ eqb (sum (entries at step left numbers)) missing) where
-  sum_step : 0 < left → sum (entries at step left numbers) ≡ get_or numbers at 0 + sum (entries (at + step) step (left - 1) numbers)
+module _ (total : ℕ) (numbers : List ℕ) (from step count k missing : ℕ)
+    (counted : eqb (sum (entries from step count numbers)) total ≡ eqb (sum (later from step count k numbers)) missing) where
+  sum_step : k < count → sum (later from step count k numbers) ≡ get_or numbers (step * k + from) 0 + sum (later from step count (k + 1) numbers)
   unfolding sum
-  sum_step more = rw (entries-step numbers step at left more)
+  sum_step h = rw (later-step from step count k numbers h)
 
-  pub too_much : 0 < left → missing < get_or numbers at 0 → false ≡ eqb (sum (entries from step count numbers)) total
-  too_much more over = rw counted (sym (ne_eqb (sum (entries at step left numbers)) missing (λ e. omega (arith, sum_step more))))
+  pub too_much : k < count → missing < get_or numbers (step * k + from) 0 → false ≡ eqb (sum (entries from step count numbers)) total
+  too_much h over = rw counted (sym (ne_eqb (sum (later from step count k numbers)) missing (λ e. omega (arith, sum_step h))))
 
-  pub counts-down : 0 < left → get_or numbers at 0 ≤ missing
-      → eqb (sum (entries from step count numbers)) total ≡ eqb (sum (entries (at + step) step (left - 1) numbers)) (missing - get_or numbers at 0)
-  counts-down more fits =
-      counted ∙ eqb_same (sum (entries at step left numbers)) missing (sum (entries (at + step) step (left - 1) numbers)) (missing - get_or numbers at 0)
-      (λ e. omega (arith, sum_step more)) (λ e. omega (arith, sum_step more))
+  pub counts-down : k < count → get_or numbers (step * k + from) 0 ≤ missing
+      → eqb (sum (entries from step count numbers)) total ≡ eqb (sum (later from step count (k + 1) numbers)) (missing - get_or numbers (step * k + from) 0)
+  counts-down h fits =
+      let here = get_or numbers (step * k + from) 0 in
+      counted ∙ eqb_same (sum (later from step count k numbers)) missing (sum (later from step count (k + 1) numbers)) (missing - here)
+      (λ e. omega (arith, sum_step h)) (λ e. omega (arith, sum_step h))
 
-  sum-end : left ≤ 0 → sum (entries at step left numbers) ≡ 0
+  pub counted-down : count ≤ k → eqb missing 0 ≡ eqb (sum (entries from step count numbers)) total
   unfolding sum every_nth
-  sum-end done = rw (entries-end numbers step at left done)
-
-  pub counted-down : left ≤ 0 → eqb missing 0 ≡ eqb (sum (entries from step count numbers)) total
   counted-down done =
-      rw counted (eqb_same missing 0 (sum (entries at step left numbers)) missing (λ e. omega (arith, sum-end done)) (λ e. omega (arith, sum-end done)))
+      let none : count - k ≡ 0 = omega arith in
+      let end = rw none at counted in
+      sym (end ∙ eqb_same 0 missing missing 0 sym sym)

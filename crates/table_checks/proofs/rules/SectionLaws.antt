@@ -7,9 +7,9 @@ use native.Mathlib.Omega.{arith}
 use native.Mathlib.Nat.{le_trans}
 use lib.Dec.{eqb, leb, ltb}
 use lib.ListN.{length, get_or, drop}
-use borrow.Author.Tests.{leb-true, ltb-true, eqb-true, le-leb, lt-leb, eq-eqb, ne_eqb}
+use borrow.Author.Tests.{leb-true, ltb-true, eqb-true, le-leb, eq-eqb, ne_eqb}
 use Rattle.seq.specs.Lists.{range, all, neighbours}
-use Rattle.seq.proofs.Tests.{and_left, and_right, and_intro, bool_same}
+use Rattle.seq.proofs.Tests.{and_left, and_right, and_intro, bool_same, bool-refused}
 use Rattle.seq.proofs.Searches.{all-mem, all-range, range_all}
 use Rattle.seq.proofs.Positions.{get_or-mem, get_d_map}
 use Rattle.seq.proofs.Sorted.{sorted_tail}
@@ -20,18 +20,13 @@ use Rattle.drawing.specs.GridRules.{may_follow, same_section, none_crosses}
 use Rattle.representation.specs.TableIn.{no_cell, cell_in}
 use Rattle.representation.proofs.TableInLaws.{cells-length, cells_at}
 use Rattle.table_checks.specs.Places.{places_of, grid_in, Within, Laid}
-use Rattle.table_checks.proofs.WalkLaws.{all-fails, all-passes, all_done, neighbours-fail, neighbours-pass, neighbours-done}
-
--- ---- codes that rise
-module _ (sections : List ℕ) (i : ℕ) (passed : neighbours leb sections ≡ neighbours leb (drop i sections)) where
-  pub falls-here : i + 1 < length sections → get_or sections (i + 1) 0 < get_or sections i 0 → false ≡ neighbours leb sections
-  falls-here h e = neighbours-fail leb sections i 0 (neighbours leb sections) passed h (lt-leb (get_or sections i 0) (get_or sections (i + 1) 0) e)
-
-  pub rises-here : i + 1 < length sections → get_or sections i 0 ≤ get_or sections (i + 1) 0 → neighbours leb sections ≡ neighbours leb (drop (i + 1) sections)
-  rises-here h e = neighbours-pass leb sections i 0 (neighbours leb sections) passed h (le-leb (get_or sections i 0) (get_or sections (i + 1) 0) e)
-
-  pub all-rise : length sections ≤ i + 1 → true ≡ neighbours leb sections
-  all-rise h = neighbours-done leb sections i 0 (neighbours leb sections) passed h
+use Rattle.table_checks.proofs.WalkLaws.{all-fails, all-passes, all_done}
+use Rattle.std.proofs.Common.{Some}
+use Rattle.std.specs.Bool.{MatchBool}
+use Rattle.std.specs.List.{IsAllAdjacentAnswer}
+use Rattle.std.specs.List.Sorted.{IsNonDecreasing}
+use Rattle.std.specs.Ordering.{is_le, is_some_and, nat_cmp}
+use Rattle.std.proofs.lemmas.List.Sorted.{non_decreasing_from_is_sorted}
 
 -- ---- codes and the sections that they stand for
 may-code : (a b : ℕ) → a < 3 → b < 3 → may_follow (code_section a) (code_section b) ≡ leb a b
@@ -70,6 +65,24 @@ neighbours-rising (a ∷ l) e zero zero u w = omega arith
 neighbours-rising (a ∷ l) e zero (suc j) u w = first-lowest a l e (get_or-mem l j 0 (omega arith))
 neighbours-rising (a ∷ l) e (suc i) zero u w = absurd (omega arith)
 neighbours-rising (a ∷ l) e (suc i) (suc j) u w = neighbours-rising l (sorted_tail leb a l e) i j (omega arith) (omega arith)
+
+-- a slice that is sorted has rising codes
+neighbours-each : (l : List ℕ) → ((k : ℕ) → k + 1 < length l → get_or l k 0 ≤ get_or l (k + 1) 0) → neighbours leb l ≡ true
+unfolding neighbours
+neighbours-each [] each = refl
+neighbours-each (a ∷ []) each = refl
+neighbours-each (a ∷ b ∷ l) each =
+    and_intro (le-leb a b (each 0 (omega arith)))
+    (neighbours-each (b ∷ l) (λ k h. let next : suc k + 1 ≡ suc (k + 1) = omega arith in rw next at (each (suc k) (omega arith))))
+
+pub sorted-runs : (sections : List ℕ) (sorted : Bool) → IsAllAdjacentAnswer (λ x y b. is_some_and is_le (Some (nat_cmp x y)) ≡ b) sections sorted
+    → sorted ≡ neighbours leb sections
+sorted-runs sections sorted e = told sorted (non_decreasing_from_is_sorted sections sorted e) where
+  told : (sorted : Bool) → MatchBool sorted (IsNonDecreasing sections) ((k : ℕ) × (k + 1 < length sections) × ((d : ℕ) → get_or sections (k + 1) d < get_or sections k d))
+      → sorted ≡ neighbours leb sections
+  told true rises = sym (neighbours-each sections (λ k h. rises k (k + 1) 0 (omega arith) h))
+  told false (k, h, falls) =
+      sym (bool-refused (neighbours leb sections) (λ run. absurd (omega (arith, falls 0, neighbours-rising sections run k (k + 1) (omega arith) h))))
 
 -- ---- no cell crosses
 abbrev pub stays_whole : Table → TableCell → Bool
@@ -129,17 +142,6 @@ module _ (columns n : ℕ) (sections cells : List ℕ) (laid : Laid columns n se
     one-whole h e =
         all-passes (stays_whole (grid_in columns n sections cells)) (places_of n cells) k no_cell (none_crosses (grid_in columns n sections cells)) passed
         (omega (arith, cells-length n cells [])) (told h ∙ eq-eqb _ _ e)
-
--- a cell's first and last row
-module _ (columns n k : ℕ) (sections cells : List ℕ) (laid : Laid columns n sections cells) (h : k < n) where
-  pub first-row : get_or cells (5 * k) 0 < length sections
-  first-row = omega (arith, (laid.within k h).tall, (laid.within k h).low)
-
-  pub some-row : 1 ≤ get_or cells (5 * k) 0 + get_or cells (5 * k + 3) 0
-  some-row = omega (arith, (laid.within k h).tall)
-
-  pub last_row : get_or cells (5 * k) 0 + get_or cells (5 * k + 3) 0 - 1 < length sections
-  last_row = omega (arith, (laid.within k h).tall, (laid.within k h).low)
 
 module _ (columns n : ℕ) (sections cells : List ℕ) where
   pub none_yet : none_crosses (grid_in columns n sections cells) ≡ all (stays_whole (grid_in columns n sections cells)) (drop 0 (places_of n cells))

@@ -104,9 +104,6 @@ module _ (columns n : ℕ) (sections cells : List ℕ) (laid : Laid columns n se
   pub rows-small : (k : ℕ) → k < n → get_or cells (5 * k + 0) 0 < 128
   rows-small k h = rw (add-zero (5 * k)) (omega (arith, (laid.within k h).tall, (laid.within k h).low, laid.placed.low))
 
-  pub columns-small : (k : ℕ) → k < n → get_or cells (5 * k + 1) 0 < 128
-  columns-small k h = omega (arith, (laid.within k h).broad, (laid.within k h).near, laid.placed.narrow)
-
   pub start-told : (tops lefts : List ℕ) (a b : Bool) → Marks (entries 0 5 n cells) tops → Marks (entries 1 5 n cells) lefts
       → a ≡ all_at tops 0 (length sections) 1 → b ≡ all_at lefts 0 columns 1 → a && b ≡ all_start (grid_in columns n sections cells)
   unfolding all_start

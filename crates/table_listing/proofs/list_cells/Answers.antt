@@ -10,11 +10,11 @@ slice_bounds-list_lines-end c = search lines_fit
 
 pub list_lines-requires : goal.list_lines-requires
 list_lines-requires c =
-    let agree = parts-agree _ _ _ _ _ _ c.in-Lines.is c.split_lines.ensures.lengths_len c.split_lines.ensures.splits in
+    let agree = parts-agree _ _ _ _ _ c.in-Ok.is c.split_lines.ensures.lengths_len c.split_lines.ensures.splits in
     (agree.0, agree.1, search rules)
 
-pub returns-in-TooLarge : goal.returns-in-TooLarge
-returns-in-TooLarge c = prints-as c.refused.ensures (search large-listed)
+pub returns-in-Err : goal.returns-in-Err
+returns-in-Err c = prints-as c.refused.ensures (search large-listed)
 
-pub returns-in-Lines : goal.returns-in-Lines
-returns-in-Lines c = prints-as c.list_lines.ensures (search held-listed)
+pub returns-in-Ok : goal.returns-in-Ok
+returns-in-Ok c = prints-as c.list_lines.ensures (search held-listed)

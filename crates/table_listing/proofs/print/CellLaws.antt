@@ -21,9 +21,6 @@ use Rattle.table_listing.specs.declared.print.Written.{Written}
 use Rattle.table_listing.specs.Printing.{TextPut, cells_of, table_listed}
 use Rattle.table_listing.proofs.print.TextLaws.{take-least, drop-least}
 
-pub turn-less : (i count : ℕ) → i < count → count - (i + 1) < count - i
-turn-less i count h = omega arith
-
 -- The first lines of a text, and those after them
 
 take_split : (n : ℕ) (ns text : List ℕ) → take n (split_text ns text) ≡ split_text (take n ns) text

@@ -2,20 +2,17 @@
 use Rattle.trace.proofs.TracingLaws.{left-inside, next-none, next-uneven, next_level, level-asked}
 use Rattle.trace.proofs.next_rect.Goals as goal
 
-pub find_rect-requires-clause-ready : goal.find_rect-requires-clause-ready
-find_rect-requires-clause-ready c = search left-inside
+pub find_rect-requires : goal.find_rect-requires
+find_rect-requires c = search left-inside
 
-pub find_rect-requires-clause-top_lt_height : goal.find_rect-requires-clause-top_lt_height
-find_rect-requires-clause-top_lt_height c = search left-inside
-
-pub returns-in_default : goal.returns-in_default
-returns-in_default c = search next-none
+pub returns-in_err-far : goal.returns-in_err-far
+returns-in_err-far c = rw c.from_residual.ensures (next-none c.requires.0 _ _ c.find_rect.ensures c.in_err-far.was)
 
 pub is_level-requires : goal.is_level-requires
-is_level-requires c = level-asked c.requires.lowest.0 _ _ c.find_rect.ensures c.in-At.is
+is_level-requires c = level-asked c.requires.0 _ _ c.find_rect.ensures c.in_ok-far.was
 
 pub returns-then-is_level : goal.returns-then-is_level
-returns-then-is_level c = search next_level
+returns-then-is_level c = next_level c.requires.0 _ _ c.find_rect.ensures c.in_ok-far.was _ c.is_level.ensures c.if-is_level.true
 
-pub returns : goal.returns
-returns c = search next-uneven
+pub returns-else-is_level : goal.returns-else-is_level
+returns-else-is_level c = next-uneven c.requires.0 _ _ c.find_rect.ensures c.in_ok-far.was _ c.is_level.ensures c.if-is_level.false

@@ -1,5 +1,5 @@
 -- Laws of the search for the first bordered rectangle over arrays.
-use Prim.Native.Nat.{ℕ, ◌+◌, ◌≤◌, ◌<◌, min}
+use Prim.Native.Nat.{ℕ, ◌≤◌, ◌<◌, min}
 use mathlib.Core.Path.{◌≡◌, refl, sym, ap, ◌∙◌}
 use mathlib.Core.Bool.{true}
 use mathlib.Core.Logic.{⊎_elim, inl, inr}
@@ -15,8 +15,9 @@ use Rattle.grid.specs.Rectangle.{first_rect}
 use Rattle.grid.specs.Cover.{Bordered, First}
 use Rattle.grid.proofs.RectangleLaws.{rect, both-plus, found_first, first_found}
 use Rattle.representation.proofs.ArrayLaws.{array-glyph, plus-code}
-use Rattle.trace.specs.Search.{Ready, found_rect}
-use Rattle.trace.specs.declared.search.Found.TheVariants.{At, Nothing}
+use Rattle.std.specs.Prelude.{Some, None}
+use Rattle.trace.specs.Ready.{Ready}
+use Rattle.trace.specs.Search.{found_rect}
 
 -- a bordered rectangle, by what the arrays say: the glyphs of three corners and how far all sides reach
 pub record Drawn (height width : ℕ) (glyphs down right : List ℕ) (t l b r : ℕ) : Type 0 where
@@ -127,66 +128,19 @@ pub record Passed (height width : ℕ) (glyphs down right : List ℕ) (top left 
   pub above : (y x : ℕ) → Drawn height width glyphs down right top left y x → b ≤ y
 
 module _ (height width : ℕ) (glyphs down right : List ℕ) (top left : ℕ) where
-  pub search-starts : Ready height width glyphs down right → top < height → left < width
-      → (code_at down top left < height) × (code_at right top left < width) × (top + 1 ≤ code_at down top left + 1) × (left + 1 ≤ code_at right top left + 1)
-      × Passed height width glyphs down right top left (top + 1) (left + 1)
-  search-starts ready th lw = (
-    ready.reach_down.inside top left th lw,
-    ready.reach_right.inside top left th lw,
-    omega (arith, ready.reach_down.self top left th lw),
-    omega (arith, ready.reach_right.self top left th lw),
-    record {
-      below = omega arith;
-      beside = omega arith;
-      fails = λ x low high. absurd (omega arith);
-      above = λ y x d. omega (arith, d.tall);
-    },
-  )
-
   module _ (b c : ℕ) (passed : Passed height width glyphs down right top left b c) where
-    passed-column : (code_at glyphs top c ≡ 3 → code_at down top c < b) → Passed height width glyphs down right top left b (c + 1)
-    passed-column fails-here =
-        record {
-          below = passed.below;
-          beside = omega (arith, passed.beside);
-          fails = λ x low high. ⊎_elim (λ (e : x ≡ c). rw e fails-here) (λ (h : x < c). passed.fails x low h) (eq-or-lt_of_le (omega arith));
-          above = passed.above;
-        }
-
-    passed-line : ((r : ℕ) → Drawn height width glyphs down right top left b r → ⊥) → Passed height width glyphs down right top left (b + 1) c
-    passed-line none_here =
-        record {
-          below = omega (arith, passed.below);
-          beside = passed.beside;
-          fails = λ x low high e. omega (arith, passed.fails x low high e);
-          above = λ y x d.
-              ⊎_elim (λ (e : b ≡ y). absurd (none_here x (rw e d))) (λ (h : b < y). omega arith) (eq-or-lt_of_le (passed.above y x d));
-        }
-
-    pub column-without-plus : (code_at glyphs top c ≡ 3 → ⊥) → Passed height width glyphs down right top left b (c + 1)
-    column-without-plus no_plus = passed-column (λ e. absurd (no_plus e))
-
-    pub column-too-short : code_at down top c < b → Passed height width glyphs down right top left b (c + 1)
-    column-too-short short = passed-column (λ e. short)
-
     -- a rectangle that ends on this line ends at no column passed by
     passed-right : {r : ℕ} → Drawn height width glyphs down right top left b r → c ≤ r
     passed-right {r} d =
         ⊎_elim (λ (h : c ≤ r). h) (λ (h : r < c). absurd (omega (arith, passed.fails r d.wide h d.top_right, d.right_reach))) (le-or-lt c r)
 
-    pub line-without-plus : (code_at glyphs b left ≡ 3 → ⊥) → Passed height width glyphs down right top left (b + 1) c
-    line-without-plus no_plus = passed-line (λ r d. no_plus d.bottom_left)
-
-    pub line-searched : min (code_at right top left) (code_at right b left) < c → Passed height width glyphs down right top left (b + 1) c
-    line-searched past = passed-line (λ r d. omega (arith, passed-right d, d.top_reach, d.bottom_reach))
-
     module _ (ready : Ready height width glyphs down right) where
-      pub none_found : code_at down top left < b → found_rect top left Nothing ≡ first_rect (array_grid height width glyphs) top left
+      pub none_found : code_at down top left < b → found_rect top left None ≡ first_rect (array_grid height width glyphs) top left
       none_found past = sym (none-drawn ready top left (λ y x d. omega (arith, passed.above y x d, d.left_reach)))
 
       pub one_found : top < height → left < width → code_at glyphs top left ≡ 3 → b ≤ code_at down top left → code_at glyphs b left ≡ 3
           → c ≤ min (code_at right top left) (code_at right b left) → code_at glyphs top c ≡ 3 → b ≤ code_at down top c
-          → found_rect top left (At b c) ≡ first_rect (array_grid height width glyphs) top left
+          → found_rect top left (Some (record { bottom = b; right = c })) ≡ first_rect (array_grid height width glyphs) top left
       one_found th lw top_left left_reach bottom_left reach top_right right_reach = sym (first_found first) where
         drawn : Drawn height width glyphs down right top left b c
         drawn =
@@ -214,5 +168,5 @@ module _ (height width : ℕ) (glyphs down right : List ℕ) (top left : ℕ) wh
             }
 
 pub no-corner : (height width : ℕ) (glyphs down right : List ℕ) (top left : ℕ) → Ready height width glyphs down right → (code_at glyphs top left ≡ 3 → ⊥)
-    → found_rect top left Nothing ≡ first_rect (array_grid height width glyphs) top left
+    → found_rect top left None ≡ first_rect (array_grid height width glyphs) top left
 no-corner height width glyphs down right top left ready no_plus = sym (none-drawn ready top left (λ b r d. no_plus d.top_left))

@@ -1,114 +1,121 @@
 -- Laws of the skyline over its array.
-use Prim.Native.Nat.{ℕ, ◌+◌, ◌-◌, ◌≤◌, ◌<◌, min}
-use mathlib.Core.Path.{◌≡◌, sym, ap, ◌∙◌}
-use mathlib.Core.Bool.{true, false, ◌&&◌}
+use Prim.Native.Nat.{ℕ, zero, suc, ◌+◌, ◌-◌, ◌≤◌, ◌<◌, min}
+use mathlib.Core.Path.{◌≡◌, refl, sym, ap, ◌∙◌}
+use mathlib.Core.Bool.{Bool, true, false, cond}
 use mathlib.Core.Logic.{⊎_elim}
 use mathlib.Core.List.{List, [], ◌∷◌, ◌++◌, append_assoc}
 use native.Mathlib.Nat.{eq-or-lt_of_le}
-use native.Mathlib.Numerals.{add-one}
 use native.Mathlib.Omega.{arith}
-use lib.Dec.{eqb}
-use lib.ListN.{length, get_or, take, drop, set, replicate, length-append, length-take, length-replicate, take-append-drop, replicate-append-replicate}
-use lib.Seq.{length-take-le, get_or-take, take-set-lt, set_at, append_snoc}
-use borrow.Author.Tests.{eq-eqb, ne_eqb}
-use Rattle.seq.specs.Lists.{all, range}
+use lib.Dec.{eqb, ltb}
+use lib.ListN.{length, get_or, take, drop, replicate, length-append, length-take, length-replicate, length-drop}
+use lib.Seq.{length-take-le, take-take, take-append-add, get_or-drop}
+use Rattle.grid.proofs.CutLaws.{drop-take}
+use borrow.Rule.Slice.PartMut.{mid_of, put_mid, mid_len, Post-is}
+use borrow.Author.Tests.{eqb-true, eq-eqb, ltb-false}
+use Rattle.std.specs.Prelude.{Some, None}
+use Rattle.std.specs.List.{list_all, position, position_or_len, fold}
+use Rattle.std.proofs.lemmas.List.Quantifiers.{position-Some}
+use Rattle.std.proofs.lemmas.List.Sums.{fails_before_first}
+use Rattle.seq.specs.Lists.{all, range, smallest}
 use Rattle.seq.proofs.ListsLaws.{drop-step}
-use Rattle.seq.proofs.Prefixes.{smallest-next}
-use Rattle.seq.proofs.Tests.{le-or-lt}
+use Rattle.seq.proofs.Tests.{le-or-lt, true-not-false}
 use Rattle.grid.specs.Trace.{lowest, leftmost, stands_level, raise}
 use Rattle.grid.proofs.RectangleLaws.{rect}
 use Rattle.grid.proofs.SkylineLaws.{Corner, leftmost-corner}
-use Rattle.trace.specs.Skylines.{Sky, sky_of, FirstFrom}
+use Rattle.trace.specs.Skylines.{sky_of, FirstFrom}
 use Rattle.trace.specs.declared.skyline.Skyline.{Skyline}
 
-pub sky-length : {s : Skyline} → Sky s → length (sky_of s) ≡ s.used
-sky-length {s} sky = length-take-le s.used s.bottoms (omega arith)
-
-sky-at : (s : Skyline) (x : ℕ) → x < s.used → get_or (sky_of s) x 0 ≡ get_or s.bottoms x 0
-sky-at s x h = get_or-take s.used s.bottoms x 0 h
+pub sky-length : (s : Skyline) → length (sky_of s) ≡ s.used
+sky-length s = length-take-le s.used s.bottoms (omega (arith, s.room, s.few))
 
 -- ---- level
+part-level : (sky : List ℕ) (level left count : ℕ) → left + count ≤ length sky
+    → list_all (λ bottom. eqb bottom level) (take count (drop left sky)) ≡ all (λ x. eqb (get_or sky x 0) level) (range left count)
+unfolding all range
+part-level sky level left zero room = refl
+part-level sky level left (suc count) room = rw (drop-step sky left (omega arith), part-level sky level (left + 1) count (omega arith))
 
-module _ (s : Skyline) (left right level : ℕ) where
-  -- one column less to test
-  level-step : (x : ℕ) → x < right → right ≤ s.used
-      → stands_level (sky_of s) (rect level x 0 right) ≡ eqb (get_or s.bottoms x 0) level && stands_level (sky_of s) (rect level (x + 1) 0 right)
-  unfolding stands_level all range
-  level-step x h fits =
-      let more : right - x ≡ (right - (x + 1)) + 1 = omega arith in
-      rw (more, add-one (right - (x + 1)), sky-at s x (omega arith))
+pub level-part : (sky : List ℕ) (left right level : ℕ) → left ≤ right → right ≤ length sky
+    → list_all (λ bottom. eqb bottom level) (take (right - left) (drop left sky)) ≡ stands_level sky (rect level left 0 right)
+unfolding stands_level
+level-part sky left right level low high = part-level sky level left (right - left) (omega arith)
 
-  module _ (x : ℕ) (rest : stands_level (sky_of s) (rect level left 0 right) ≡ stands_level (sky_of s) (rect level x 0 right)) where
-    pub level-on : x < right → right ≤ s.used → get_or s.bottoms x 0 ≡ level
-        → stands_level (sky_of s) (rect level left 0 right) ≡ stands_level (sky_of s) (rect level (x + 1) 0 right)
-    level-on h fits e = rest ∙ level-step x h fits ∙ rw (eq-eqb (get_or s.bottoms x 0) level e)
-
-    pub not-level : x < right → right ≤ s.used → (get_or s.bottoms x 0 ≡ level → ⊥) → false ≡ stands_level (sky_of s) (rect level left 0 right)
-    not-level h fits differs = sym (rest ∙ level-step x h fits ∙ rw (ne_eqb (get_or s.bottoms x 0) level differs))
-
-    pub all-level : right ≤ x → true ≡ stands_level (sky_of s) (rect level left 0 right)
-    unfolding stands_level all range
-    all-level h = sym (rest ∙ (let none : right - x ≡ 0 = omega arith in rw none))
-
--- ---- raising
-
-pub raise-none : (s : List ℕ) (left bottom : ℕ) → s ≡ raise (rect 0 left bottom left) s
+-- ---- raising: of all bottoms, or of those in use
+pub raise-used : (s : List ℕ) (used left right bottom : ℕ) → left ≤ right → right ≤ used → used ≤ length s
+    → take used (take left s ++ (replicate (right - left) bottom ++ drop right s)) ≡ raise (rect 0 left bottom right) (take used s)
 unfolding raise
-raise-none s left bottom = let none : left - left ≡ 0 = omega arith in sym (rw none (append_assoc (take left s) [] (drop left s) ∙ take-append-drop left s))
+raise-used s used left right bottom low high room =
+    let front = take left s ++ replicate (right - left) bottom in
+    let long : length front ≡ right = simp (length-append, length-replicate, length-take) (omega arith) in
+    let there : used ≡ length front + (used - right) = omega arith in
+    let first : take left (take used s) ≡ take left s = take-take left used s (omega arith) in
+    let last : drop right (take used s) ≡ take (used - right) (drop right s) = drop-take right used s high in
+    ap (take used) (sym (append_assoc (take left s) (replicate (right - left) bottom) (drop right s)))
+    ∙ ap (λ (n : ℕ). take n (front ++ drop right s)) there ∙ take-append-add front (drop right s) (used - right)
+    ∙ rw (first, last) refl
 
-raise-next : (s : List ℕ) (left bottom x : ℕ) → left ≤ x → x < length s → set (raise (rect 0 left bottom x) s) x bottom ≡ raise (rect 0 left bottom (x + 1)) s
-unfolding raise
-raise-next s left bottom x low high =
-    let front = take left s ++ replicate (x - left) bottom in
-    let reach : length front ≡ x = simp (length-append, length-replicate, length-take) (omega arith) in
-    let one_more : x + 1 - left ≡ (x - left) + 1 = omega arith in
-    rw (drop-step s x high) (set_at front (get_or s x 0) (drop (x + 1) s) bottom x reach)
-    ∙ sym (append_snoc front bottom (drop (x + 1) s))
-    ∙ rw (one_more, ← replicate-append-replicate (x - left) 1 bottom)
-    (ap (λ l. l ++ drop (x + 1) s) (append_assoc (take left s) (replicate (x - left) bottom) (bottom ∷ [])))
-
-pub raise-on : (s old : Skyline) (left right bottom x : ℕ) → Sky old → s.used ≡ old.used → right ≤ old.used → x < right → left ≤ x
-    → sky_of s ≡ raise (rect 0 left bottom x) (sky_of old) → take s.used (set s.bottoms x bottom) ≡ raise (rect 0 left bottom (x + 1)) (sky_of old)
-raise-on s old left right bottom x sky same fits h low e =
-    take-set-lt s.used s.bottoms x bottom (omega arith) ∙ ap (λ l. set l x bottom) e
-    ∙ raise-next (sky_of old) left bottom x low (omega (arith, sky-length sky))
-
-pub raise-whole : (s old : List ℕ) (left right bottom x : ℕ) → x ≤ right → right ≤ x → s ≡ raise (rect 0 left bottom x) old → s ≡ raise (rect 0 left bottom right) old
-raise-whole s old left right bottom x low high e = let same : x ≡ right = omega arith in rw same at e
+pub put-raised : (s : List ℕ) (used left right bottom : ℕ) (part : List ℕ) → left ≤ right → right ≤ used → used ≤ length s
+    → part ≡ replicate (length (mid_of left (right - left) s)) bottom → take used (put_mid left (right - left) s part) ≡ raise (rect 0 left bottom right) (take used s)
+put-raised s used left right bottom part low high room filled =
+    let long : length (mid_of left (right - left) s) ≡ right - left = mid_len left right s (omega arith) in
+    rw (filled, long, Post-is left right s low) (raise-used s used left right bottom low high room)
 
 -- ---- the lowest
+fold-lowest : (low b : ℕ) (bs : List ℕ) → fold min low (b ∷ bs) ≡ min low (smallest (b ∷ bs))
+unfolding smallest
+fold-lowest low b [] = refl
+fold-lowest low b (c ∷ bs) = omega (arith, fold-lowest (min low b) c bs)
 
-module _ (s : List ℕ) (x level : ℕ) (e : level ≡ lowest (take x s)) where
-  pub lowest-on : (next : ℕ) → 1 ≤ x → x < length s → next ≡ min level (get_or s x 0) → next ≡ lowest (take (x + 1) s)
-  lowest-on next pos h f = omega (arith, f, e, smallest-next s x pos h)
+pub lowest-folded : (sky : List ℕ) → 0 < length sky → fold min (get_or sky 0 0) sky ≡ lowest sky
+unfolding smallest
+lowest-folded [] some = absurd (omega arith)
+lowest-folded (b ∷ []) some = omega arith
+lowest-folded (b ∷ c ∷ bs) some = omega (arith, fold-lowest b b (c ∷ bs))
 
-  pub lowest-whole : (used : ℕ) → x ≤ used → used ≤ x → level ≡ lowest (take used s)
-  lowest-whole used low high = let same : x ≡ used = omega arith in rw same at e
+-- ---- the first column at a level
+nowhere : (test : ℕ → Bool) (l : List ℕ) → position test l ≡ None → length l ≤ position_or_len test l
+nowhere test l missing = ltb-false (position_or_len test l) (length l) (go (ltb (position_or_len test l) (length l)) missing) where
+  go : (t : Bool) → cond t (Some (position_or_len test l)) None ≡ None → t ≡ false
+  go true e = absurd (let z : ◌≡◌ {A = ℕ} 0 1 = cc in omega arith)
+  go false e = refl
 
--- ---- the next leftmost-corner
+module _ (sky : List ℕ) (from level : ℕ) (inside : from ≤ length sky) where
+  pub first-here : (n : ℕ) → position (λ bottom. eqb bottom level) (drop from sky) ≡ Some n → FirstFrom sky from level (from + n)
+  first-here n found =
+      let (low, here, before) = position-Some (λ bottom. eqb bottom level) (drop from sky) n 0 found in
+      record {
+        low = omega arith;
+        high = omega (arith, length-drop from sky);
+        found = λ h. eqb-true (get_or sky (from + n) 0) level (sym (ap (λ b. eqb b level) (get_or-drop from sky n 0)) ∙ here);
+        before = λ x after h e.
+            true-not-false (sym (eq-eqb (get_or sky x 0) level e) ∙ ap (λ (k : ℕ). eqb (get_or sky k 0) level) (let q : x ≡ from + (x - from) = omega arith in q)
+            ∙ sym (ap (λ b. eqb b level) (get_or-drop from sky (x - from) 0)) ∙ before (x - from) (omega arith));
+      }
 
-module _ (s : Skyline) (sky : Sky s) (from level x : ℕ) (low : from ≤ x)
-    (before : (y : ℕ) → from ≤ y → y < x → get_or (sky_of s) y 0 ≡ level → ⊥) where
-  pub first_on : (get_or s.bottoms x 0 ≡ level → ⊥) → x < s.used → (y : ℕ) → from ≤ y → y < x + 1 → get_or (sky_of s) y 0 ≡ level → ⊥
-  first_on differs h y a b =
-      ⊎_elim (λ (e : y ≡ x). λ f. differs (sym (sky-at s x h) ∙ (rw e at f))) (λ (k : y < x). before y a k) (eq-or-lt_of_le (omega arith))
+  pub first-nowhere : (used : ℕ) → length sky ≡ used → position (λ bottom. eqb bottom level) (drop from sky) ≡ None → FirstFrom sky from level used
+  first-nowhere used long missing =
+      record {
+        low = omega arith;
+        high = omega arith;
+        found = λ h. absurd (omega arith);
+        before = λ x after h e.
+            true-not-false (sym (eq-eqb (get_or sky x 0) level e) ∙ ap (λ (k : ℕ). eqb (get_or sky k 0) level) (let q : x ≡ from + (x - from) = omega arith in q)
+            ∙ sym (ap (λ b. eqb b level) (get_or-drop from sky (x - from) 0))
+            ∙ fails_before_first (λ bottom. eqb bottom level) (drop from sky) (x - from) 0
+            (omega (arith, length-drop from sky, nowhere (λ bottom. eqb bottom level) (drop from sky) missing)));
+      }
 
-  pub first-here : get_or s.bottoms x 0 ≡ level → x < s.used → FirstFrom (sky_of s) from level x
-  first-here e h = record { low = low; high = omega (arith, sky-length sky); found = λ k. sky-at s x h ∙ e; before = before }
-
-  pub first-nowhere : x ≤ s.used → s.used ≤ x → FirstFrom (sky_of s) from level x
-  first-nowhere h k = record { low = low; high = omega (arith, sky-length sky); found = λ below. absurd (omega (arith, sky-length sky)); before = before }
-
-module _ (s : Skyline) (from level left : ℕ) (sky : Sky s) where
+-- ---- the next leftmost corner
+module _ (s : Skyline) (from level left : ℕ) where
   -- the first column at a level that none stands below
   pub corner-at-level : ((x : ℕ) → x < s.used → level ≤ get_or (sky_of s) x 0) → ((x : ℕ) → x < from → level < get_or (sky_of s) x 0)
       → FirstFrom (sky_of s) from level left → left < s.used → (level ≡ lowest (sky_of s)) × (left ≡ leftmost (sky_of s)) × (left < s.used)
   corner-at-level none_below before first h = (top, ⊎_elim (λ (k : left ≤ leftmost (sky_of s)). omega (arith, later k)) (λ k. absurd (earlier k)) (le-or-lt left (leftmost (sky_of s))), h) where
     there : Corner (sky_of s)
-    there = leftmost-corner (sky_of s) (omega (arith, sky-length sky))
+    there = leftmost-corner (sky_of s) (omega (arith, sky-length s))
 
     here : get_or (sky_of s) left 0 ≡ level
-    here = first.found (omega (arith, sky-length sky))
+    here = first.found (omega (arith, sky-length s))
 
     top : level ≡ lowest (sky_of s)
     top =
@@ -116,8 +123,8 @@ module _ (s : Skyline) (from level left : ℕ) (sky : Sky s) where
           arith,
           here,
           there.low,
-          there.lowest-of left (omega (arith, sky-length sky)),
-          none_below (leftmost (sky_of s)) (omega (arith, there.inside, sky-length sky)),
+          there.lowest-of left (omega (arith, sky-length s)),
+          none_below (leftmost (sky_of s)) (omega (arith, there.inside, sky-length s)),
         )
 
     later : left ≤ leftmost (sky_of s) → leftmost (sky_of s) ≤ left
@@ -130,12 +137,12 @@ module _ (s : Skyline) (from level left : ℕ) (sky : Sky s) where
         (λ (j : leftmost (sky_of s) < from). omega (arith, before (leftmost (sky_of s)) j, there.low, top)) (le-or-lt from (leftmost (sky_of s)))
 
 -- the first column at the lowest level
-pub corner-lowest : (s : Skyline) (top left : ℕ) → Sky s → top ≡ lowest (sky_of s) → FirstFrom (sky_of s) 0 top left
+pub corner-lowest : (s : Skyline) (top left : ℕ) → top ≡ lowest (sky_of s) → FirstFrom (sky_of s) 0 top left
     → (top ≡ lowest (sky_of s)) × (left ≡ leftmost (sky_of s)) × (left < s.used)
-corner-lowest s top left sky e first =
-    let there = leftmost-corner (sky_of s) (omega (arith, sky-length sky)) in
+corner-lowest s top left e first =
+    let there = leftmost-corner (sky_of s) (omega (arith, sky-length s)) in
     let inside : left < s.used =
-    ⊎_elim (λ (h : s.used ≤ left). absurd (first.before (leftmost (sky_of s)) (omega arith) (omega (arith, there.inside, sky-length sky)) (there.low ∙ sym e)))
+    ⊎_elim (λ (h : s.used ≤ left). absurd (first.before (leftmost (sky_of s)) (omega arith) (omega (arith, there.inside, sky-length s)) (there.low ∙ sym e)))
     (λ (h : left < s.used). h) (le-or-lt s.used left) in
-    corner-at-level s 0 top left sky
-    (λ x h. omega (arith, e, there.lowest-of x (omega (arith, sky-length sky)))) (λ x h. absurd (omega arith)) first inside
+    corner-at-level s 0 top left
+    (λ x h. omega (arith, e, there.lowest-of x (omega (arith, sky-length s)))) (λ x h. absurd (omega arith)) first inside

@@ -6,7 +6,7 @@ use Rattle.trace.proofs.TracingLaws.{Tracing}
 use Rattle.trace.proofs.trace.Given as goal
 
 abbrev pub invariant-loop-corner : goal.invariant-loop-corner
-invariant-loop-corner l = (length l.rects ≡ length l.initial.rects) × (1 < l.height) × Tracing l.height l.width l.glyphs l.rects l.sky l.corner l.n
+invariant-loop-corner l = (length l.rects ≡ length l.initial.rects) × (1 < l.borders.height) × Tracing l.borders.height l.borders.width l.borders.glyphs.now l.rects l.sky l.corner l.n
 
 abbrev pub decreases-loop-corner : goal.decreases-loop-corner
 decreases-loop-corner l = 1024 - l.n

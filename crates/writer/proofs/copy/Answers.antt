@@ -1,15 +1,7 @@
-use borrow.Author.Rules.{rules}
-use Rattle.writer.proofs.WritingLaws.{written_none, written_next, written_all}
+-- `writer::copy` meets its contract: the part that fits is copied.
+use Rattle.writer.proofs.WritingLaws.{wrote_part}
 use Rattle.writer.proofs.copy.Goals as goal
 
--- src/lib.rt:36:5
-pub loop-i-init : goal.loop-i-init
-loop-i-init c = search (rules, written_none)
-
--- src/lib.rt:36:5
-pub loop-i-preserved : goal.loop-i-preserved
-loop-i-preserved c = search (rules, written_next)
-
--- src/lib.rt:30:1
 pub returns : goal.returns
-returns c = search (rules, written_all)
+returns c =
+    wrote_part c.args.out.now c.args.bytes.now c.args.at c.min-start.result c.min-count.result c.min-start.ensures c.min-count.ensures c.copy_from_slice.new.self c.copy_from_slice.ensures.after

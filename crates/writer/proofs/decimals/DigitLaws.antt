@@ -45,7 +45,7 @@ module _ (d : List ℕ) (n : ℕ) {whole : List ℕ} (i : ℕ) (h : length d ≡
       let there : i - 1 < length d = omega arith in
       (omega arith, length-set d (i - 1) (48 + n % 10) ∙ h, digits-next d whole n (i - 1) there large (rw before-one e))
 
-pub digits-none : (d : List ℕ) (n : ℕ) {whole : List ℕ} (i : ℕ) → i ≤ 0 → digits_onto i n (drop i d) ≡ whole → drop i d ≡ whole
+pub digits-none : (d : List ℕ) (n : ℕ) {whole : List ℕ} (i : ℕ) → i ≤ 0 → digits_onto i n (drop i d) ≡ whole → d ≡ whole
 unfolding digits_onto
 digits-none d n zero h e = e
 digits-none d n (suc i) h e = absurd (omega arith)

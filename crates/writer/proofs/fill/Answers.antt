@@ -1,15 +1,7 @@
-use borrow.Author.Rules.{rules}
-use Rattle.writer.proofs.WritingLaws.{written_none, filled_next, filled-all}
+-- `writer::fill` meets its contract: the part that fits is filled.
+use Rattle.writer.proofs.WritingLaws.{filled-part}
 use Rattle.writer.proofs.fill.Goals as goal
 
--- src/lib.rt:50:5
-pub loop-i-init : goal.loop-i-init
-loop-i-init c = search (rules, written_none)
-
--- src/lib.rt:50:5
-pub loop-i-preserved : goal.loop-i-preserved
-loop-i-preserved c = search (rules, filled_next)
-
--- src/lib.rt:44:1
 pub returns : goal.returns
-returns c = search (rules, filled-all)
+returns c =
+    filled-part c.args.out.now c.args.at c.min-start.result c.args.count c.args.b c.min.result c.min-start.ensures c.min.ensures c.fill.new.self (c.fill.ensures.after (λ y e. e))

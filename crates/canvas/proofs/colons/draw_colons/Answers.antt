@@ -8,7 +8,7 @@ loop-k-init c = search (rules, colons-start)
 pub put_colons-requires : goal.put_colons-requires
 put_colons-requires c =
     let (low, _, _, room) = c.requires.row_bound in
-    let (up, near) = c.requires.by_index in
+    let (up, near) = c.requires.rising in
     colons-room _ _ _ _ _ _ _ _ _ c.loop-k.invariant c.loop-k-test.true up near low room
 
 pub loop-k-preserved-then-marks-k-eq1 : goal.loop-k-preserved-then-marks-k-eq1

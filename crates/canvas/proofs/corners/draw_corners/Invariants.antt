@@ -1,12 +1,8 @@
 -- `canvas::corners::draw_corners` meets its contract: the corners of the first k cells stand.
-use Prim.Native.Nat.{◌-◌, ◌≤◌}
 use mathlib.Core.Path.{◌≡◌}
 use lib.ListN.{length}
 use Rattle.canvas.specs.Painting.{Drawn, all_cornered}
 use Rattle.canvas.proofs.corners.draw_corners.Given as goal
 
 abbrev pub invariant-loop-k : goal.invariant-loop-k
-invariant-loop-k l = (l.k ≤ l.n) × (length l.canvas ≡ length l.initial.canvas) × Drawn (all_cornered l.rects l.k) l.initial.canvas l.canvas
-
-abbrev pub decreases-loop-k : goal.decreases-loop-k
-decreases-loop-k l = l.n - l.k
+invariant-loop-k l = (length l.canvas ≡ length l.initial.canvas) × Drawn (all_cornered l.rects l.k) l.initial.canvas l.canvas

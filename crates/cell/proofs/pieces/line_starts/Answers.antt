@@ -14,8 +14,5 @@ overflow_add-at c = search starting-fits
 pub loop-y-preserved : goal.loop-y-preserved
 loop-y-preserved c = search (rules, starting-next)
 
-pub returns-clause-starts_len_unchanged : goal.returns-clause-starts_len_unchanged
-returns-clause-starts_len_unchanged c = search starting-all
-
 pub returns-clause-by_index : goal.returns-clause-by_index
 returns-clause-by_index c = search starting-all

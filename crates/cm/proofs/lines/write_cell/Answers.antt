@@ -1,18 +1,34 @@
 -- `cm::lines::write_cell` meets its contract: the cell's line between its borders is the definition's inner line.
+use mathlib.Core.Path.{ap}
+use Rattle.grid.specs.Values.{Rect}
 use Rattle.cm.proofs.lines.InnerLaws.{cell-asked, inner-fits, inner-asked, inner-line, inner-few}
 use Rattle.cm.proofs.lines.write_cell.Goals as goal
 
-pub cell_line-line-requires : goal.cell_line-line-requires
-cell_line-line-requires c = search (cell-asked c.requires)
+pub line-line-requires : goal.line-line-requires
+line-line-requires c =
+    let (v, R, _) = c.requires.ready in
+    cell-asked (v, R.boxed, c.requires.inner, c.args.board.now.near, c.requires.early) _ (ap (λ (r : Rect). r.top) c.at-rect.ensures)
 
 pub write_inner-requires-clause-origin_bound : goal.write_inner-requires-clause-origin_bound
-write_inner-requires-clause-origin_bound c = inner-asked c.requires _ c.edge.ensures.0 _ c.cell_line-line.ensures _ _ c.edge-2.ensures.0 c.edge-3.ensures.0
+write_inner-requires-clause-origin_bound c =
+    let (v, R, _) = c.requires.ready in
+    inner-asked (v, R.boxed, c.requires.inner, c.args.board.now.near, c.requires.early) _ (ap (λ (r : Rect). r.top) c.at-rect.ensures) _ c.line-line.ensures _ _
+    (ap (λ (r : Rect). r.left) c.at-rect.ensures) (ap (λ (r : Rect). r.right) c.at-rect.ensures)
 
 pub write_inner-requires-clause-left_bound : goal.write_inner-requires-clause-left_bound
-write_inner-requires-clause-left_bound c = search (inner-fits c.requires)
+write_inner-requires-clause-left_bound c =
+    let (v, R, _) = c.requires.ready in
+    inner-fits (v, R.boxed, c.requires.inner, c.args.board.now.near, c.requires.early) _ (ap (λ (r : Rect). r.top) c.at-rect.ensures) _ c.line-line.ensures _ _
+    (ap (λ (r : Rect). r.left) c.at-rect.ensures) (ap (λ (r : Rect). r.right) c.at-rect.ensures)
 
-pub returns-clause-fact : goal.returns-clause-fact
-returns-clause-fact c = search (inner-line c.requires)
+pub returns-clause-wrote : goal.returns-clause-wrote
+returns-clause-wrote c =
+    let (v, R, _) = c.requires.ready in
+    inner-line (v, R.boxed, c.requires.inner, c.args.board.now.near, c.requires.early) _ (ap (λ (r : Rect). r.top) c.at-rect.ensures) _ c.line-line.ensures _ _
+    (ap (λ (r : Rect). r.left) c.at-rect.ensures) (ap (λ (r : Rect). r.right) c.at-rect.ensures) c.write_inner.ensures
 
-pub returns-clause-result_bound : goal.returns-clause-result_bound
-returns-clause-result_bound c = search (inner-few c.requires)
+pub returns-clause-short : goal.returns-clause-short
+returns-clause-short c =
+    let (v, R, _) = c.requires.ready in
+    inner-few (v, R.boxed, c.requires.inner, c.args.board.now.near, c.requires.early) _ (ap (λ (r : Rect). r.top) c.at-rect.ensures) _ c.line-line.ensures _ _
+    (ap (λ (r : Rect). r.left) c.at-rect.ensures) (ap (λ (r : Rect). r.right) c.at-rect.ensures) c.write_inner.ensures

@@ -1,27 +1,47 @@
+use mathlib.Core.Path.{refl, ap}
+use native.Mathlib.Omega.{arith}
 use borrow.Author.Rules.{rules}
-use Rattle.cm.proofs.lines.TurnLaws.{walk-starts, walk_ends, walk-total, walk-border, inner-asked, right-room, walk-less, walk-cell, walk-few}
+use Rattle.grid.specs.Values.{Rect}
+use Rattle.cm.proofs.lines.TurnLaws.{asked, walk-starts, walk_ends, walk-total, walk-border, inner-asked, right-room, walk-less, walk-cell, walk-few}
 use Rattle.cm.proofs.lines.write_line.Goals as goal
 
 pub loop-x-init : goal.loop-x-init
-loop-x-init c = search (rules, walk-starts)
+loop-x-init c = record { short = omega arith; kept = refl; walked = walk-starts _ _ _ _ _ _ _ _ }
 
 pub loop-x-preserved-then-code-lt256 : goal.loop-x-preserved-then-code-lt256
-loop-x-preserved-then-code-lt256 c = search (rules, walk-border)
+loop-x-preserved-then-code-lt256 c =
+    record {
+      short = search rules;
+      kept = search rules;
+      walked = walk-border (asked c.args.board.now _ _ c.requires.ready c.requires.low c.requires.early) c.loop-x.invariant.walked c.loop-x-test.true _ refl c.if-code-lt256.true _ _ c.put.ensures;
+    }
 
-pub write_cell-end-requires : goal.write_cell-end-requires
-write_cell-end-requires c = inner-asked c.requires c.loop-x.invariant.2 c.loop-x-test.true _ c.entry-code.ensures.0 c.if-code-lt256.false c.loop-x.invariant.0
+pub write_cell-end-requires-clause-inner : goal.write_cell-end-requires-clause-inner
+write_cell-end-requires-clause-inner c =
+    (inner-asked (asked c.args.board.now _ _ c.requires.ready c.requires.low c.requires.early) c.loop-x.invariant.walked c.loop-x-test.true _ refl c.if-code-lt256.false c.loop-x.invariant.short).2
 
-pub edge-x-requires : goal.edge-x-requires
-edge-x-requires c = search (right-room c.requires c.loop-x.invariant.2)
+pub write_cell-end-requires-clause-early : goal.write_cell-end-requires-clause-early
+write_cell-end-requires-clause-early c =
+    (inner-asked (asked c.args.board.now _ _ c.requires.ready c.requires.low c.requires.early) c.loop-x.invariant.walked c.loop-x-test.true _ refl c.if-code-lt256.false c.loop-x.invariant.short).4
+
+pub at-x-requires : goal.at-x-requires
+at-x-requires c = let room = right-room (asked c.args.board.now _ _ c.requires.ready c.requires.low c.requires.early) c.loop-x.invariant.walked c.loop-x-test.true _ refl c.if-code-lt256.false in omega arith
 
 pub loop-x-smaller : goal.loop-x-smaller
-loop-x-smaller c = search (walk-less c.requires c.loop-x.invariant.2)
+loop-x-smaller c =
+    walk-less (asked c.args.board.now _ _ c.requires.ready c.requires.low c.requires.early) c.loop-x.invariant.walked c.loop-x-test.true _ refl c.if-code-lt256.false _ (ap (λ (r : Rect). r.right) c.at-x.ensures)
 
 pub loop-x-preserved : goal.loop-x-preserved
-loop-x-preserved c = (search (walk-few c.requires c.loop-x.invariant.2), search rules, search (walk-cell c.requires c.loop-x.invariant.2))
+loop-x-preserved c =
+    let past = ap (λ (r : Rect). r.right) c.at-x.ensures in
+    record {
+      short = walk-few (asked c.args.board.now _ _ c.requires.ready c.requires.low c.requires.early) c.loop-x.invariant.walked c.loop-x-test.true _ refl c.if-code-lt256.false _ past c.write_cell-end.new.out _ c.write_cell-end.ensures.short c.loop-x.invariant.short;
+      kept = search rules;
+      walked = walk-cell (asked c.args.board.now _ _ c.requires.ready c.requires.low c.requires.early) c.loop-x.invariant.walked c.loop-x-test.true _ refl c.if-code-lt256.false _ past _ _ c.write_cell-end.ensures.short c.write_cell-end.ensures.wrote;
+    }
 
-pub returns-clause-fact : goal.returns-clause-fact
-returns-clause-fact c = search (walk_ends c.requires c.loop-x.invariant.2)
+pub returns-clause-wrote : goal.returns-clause-wrote
+returns-clause-wrote c = walk_ends (asked c.args.board.now _ _ c.requires.ready c.requires.low c.requires.early) c.loop-x.invariant.walked c.loop-x-test.false
 
-pub returns-clause-result_bound : goal.returns-clause-result_bound
-returns-clause-result_bound c = search (walk-total c.requires c.loop-x.invariant.2)
+pub returns-clause-short : goal.returns-clause-short
+returns-clause-short c = walk-total (asked c.args.board.now _ _ c.requires.ready c.requires.low c.requires.early) c.loop-x.invariant.walked c.loop-x.invariant.short

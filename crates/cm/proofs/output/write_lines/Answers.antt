@@ -1,15 +1,19 @@
+use mathlib.Core.Path.{refl}
+use native.Mathlib.Omega.{arith}
 use borrow.Author.Rules.{rules}
-use Rattle.cm.proofs.output.OutputLaws.{height-low, line-asked, written_none, written_next, written_all}
+use Rattle.cm.proofs.output.OutputLaws.{written_none, written_next, written_all}
 use Rattle.cm.proofs.output.write_lines.Goals as goal
 
 pub loop-y-init : goal.loop-y-init
-loop-y-init c = search (rules, height-low, written_none)
-
-pub write_line-at-requires : goal.write_line-at-requires
-write_line-at-requires c = line-asked c.requires _ _ c.loop-y-test.true (search rules)
+loop-y-init c = record { few = omega arith; kept = refl; written = written_none _ _ }
 
 pub loop-y-preserved : goal.loop-y-preserved
-loop-y-preserved c = search (rules, written_next)
+loop-y-preserved c =
+    record {
+      few = search rules;
+      kept = search rules;
+      written = written_next _ _ c.loop-y.invariant.written _ _ c.loop-y-test.true c.write_line-at.ensures.wrote;
+    }
 
 pub returns : goal.returns
-returns c = search written_all
+returns c = written_all _ _ c.loop-y.invariant.written c.loop-y.auto.y-end c.loop-y-test.false

@@ -1,18 +1,19 @@
 -- `fragments::part::after_first` meets its contract: each return by its law.
+use native.Mathlib.Omega.{arith}
 use Rattle.fragments.proofs.part.FirstLaws.{none-begins, space-begins, other-begins, narrow-tab-begins, wide-tab-begins}
 use Rattle.fragments.proofs.part.after_first.Goals as goal
 
-pub returns-then-text-eq0 : goal.returns-then-text-eq0
-returns-then-text-eq0 c = search none-begins
+pub returns-in-32 : goal.returns-in-32
+returns-in-32 c = search space-begins
 
-pub returns-then-first-eq32 : goal.returns-then-first-eq32
-returns-then-first-eq32 c = search space-begins
+pub returns-in-9 : goal.returns-in-9
+returns-in-9 c = search narrow-tab-begins
 
-pub returns-then-first-ne9 : goal.returns-then-first-ne9
-returns-then-first-ne9 c = search other-begins
+pub returns-in-9-2 : goal.returns-in-9-2
+returns-in-9-2 c = search wide-tab-begins
 
-pub returns-then-tab_columns-eq1 : goal.returns-then-tab_columns-eq1
-returns-then-tab_columns-eq1 c = search narrow-tab-begins
+pub returns-in_default : goal.returns-in_default
+returns-in_default c = none-begins _ _ (omega arith)
 
-pub returns : goal.returns
-returns c = search wide-tab-begins
+pub returns-in_default-2 : goal.returns-in_default-2
+returns-in_default-2 c = search other-begins

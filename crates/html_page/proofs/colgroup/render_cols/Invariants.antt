@@ -1,5 +1,5 @@
 -- `html_page::colgroup::render_cols` meets its contract. The invariant: the tags of the first k columns are written.
-use Prim.Native.Nat.{◌+◌, ◌*◌, ◌-◌, ◌≤◌}
+use Prim.Native.Nat.{◌+◌, ◌*◌, ◌≤◌}
 use mathlib.Core.Path.{◌≡◌}
 use mathlib.Core.List.{flat_map}
 use lib.ListN.{length, take}
@@ -9,8 +9,6 @@ use Rattle.html_page.specs.Paged.{col_of}
 use Rattle.html_page.proofs.colgroup.render_cols.Given as goal
 
 abbrev pub invariant-loop-k : goal.invariant-loop-k
-invariant-loop-k l = (l.k ≤ l.columns) × (l.columns ≤ 127) × (l.at ≤ 65536) × (length l.cols ≡ 2 * l.columns) × (length l.out ≡ length l.initial.out) × (l.end ≤ l.at + 64 * l.k)
+invariant-loop-k l =
+    (length l.out ≡ length l.initial.out) × (l.end ≤ l.at + 64 * l.k)
     × Wrote l.initial.out l.at (flat_map (col_of l.total) (take l.k (columns_of_array l.columns l.cols))) l.out l.end
-
-abbrev pub decreases-loop-k : goal.decreases-loop-k
-decreases-loop-k l = l.columns - l.k

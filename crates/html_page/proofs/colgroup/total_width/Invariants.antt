@@ -1,14 +1,11 @@
 -- `html_page::colgroup::total_width` meets its contract. The invariant: the sum of the first k widths.
-use Prim.Native.Nat.{◌*◌, ◌-◌, ◌≤◌}
+use Prim.Native.Nat.{◌*◌, ◌≤◌}
 use mathlib.Core.Path.{◌≡◌}
-use lib.ListN.{length, take}
+use lib.ListN.{take}
 use Rattle.seq.specs.Lists.{sum}
 use Rattle.grid.specs.Flat.{columns_of_array}
 use Rattle.html_page.proofs.colgroup.ColgroupLaws.{widths_of}
 use Rattle.html_page.proofs.colgroup.total_width.Given as goal
 
 abbrev pub invariant-loop-k : goal.invariant-loop-k
-invariant-loop-k l = (l.k ≤ l.columns) × (l.columns ≤ 127) × (length l.cols ≡ 2 * l.columns) × (l.total ≤ 65536 * l.k) × (l.total ≡ sum (widths_of (take l.k (columns_of_array l.columns l.cols))))
-
-abbrev pub decreases-loop-k : goal.decreases-loop-k
-decreases-loop-k l = l.columns - l.k
+invariant-loop-k l = (l.total ≤ 65536 * l.k) × (l.total ≡ sum (widths_of (take l.k (columns_of_array l.columns l.cols))))

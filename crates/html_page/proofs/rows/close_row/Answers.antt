@@ -1,3 +1,5 @@
+use mathlib.Core.Path.{ap}
+use mathlib.Core.Bool.{not}
 -- `html_page::rows::close_row` meets its contract.
 use borrow.Author.Rules.{rules}
 use Rattle.seq.specs.Ascii.{ascii}
@@ -10,4 +12,4 @@ returns-then-not-ends_section c = (search row-closed, search rules)
 
 pub returns : goal.returns
 unfolding ascii
-returns c = (search section-closed, search rules)
+returns c = (section-closed _ _ c.ends_section.ensures c.copy-closed.ensures (ap not c.if-not-ends_section.false) c.requires.0 (rw c.section_of.ensures at c.close_section.ensures.0), search rules)

@@ -1,3 +1,5 @@
+use mathlib.Core.Path.{ap}
+use mathlib.Core.Bool.{not}
 -- `html_page::rows::open_row` meets its contract.
 use borrow.Author.Rules.{rules}
 use Rattle.seq.specs.Ascii.{ascii}
@@ -10,4 +12,4 @@ returns-then-not-starts_section c = (search row_opened, search rules)
 
 pub returns : goal.returns
 unfolding ascii
-returns c = (search section-opened, search rules)
+returns c = (section-opened _ _ c.starts_section.ensures (ap not c.if-not-starts_section.false) c.requires.0 (rw c.section_of.ensures at c.open_section-opened.ensures.0) c.copy-2.ensures, search rules)

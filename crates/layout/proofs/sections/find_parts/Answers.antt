@@ -1,15 +1,13 @@
--- `layout::sections::find_parts` meets its contract: by the number of separators and the last of them.
-use Rattle.layout.proofs.sections.PartLaws.{head_end-none, foot_start-none, head_end-found, foot_start-one, foot_start-found, foot_start-not-last}
+-- `layout::sections::find_parts` meets its contract: by the last two separators.
+use Rattle.layout.proofs.sections.PartLaws.{foot_start-few, foot_start-found, foot_start-not-last}
+use borrow.Author.Rules.{rules}
 use Rattle.layout.proofs.sections.find_parts.Goals as goal
 
-pub returns-then-count-eq0 : goal.returns-then-count-eq0
-returns-then-count-eq0 c = search (head_end-none, foot_start-none)
+pub returns-in-len2-up-clause-foot : goal.returns-in-len2-up-clause-foot
+returns-in-len2-up-clause-foot c = search (rules, foot_start-found)
 
-pub returns-then-count-eq1 : goal.returns-then-count-eq1
-returns-then-count-eq1 c = search (head_end-found, foot_start-one)
+pub returns-in_default-clause-foot : goal.returns-in_default-clause-foot
+returns-in_default-clause-foot c = search (rules, foot_start-few)
 
-pub returns-then-lines-count : goal.returns-then-lines-count
-returns-then-lines-count c = search (head_end-found, foot_start-found)
-
-pub returns : goal.returns
-returns c = search (head_end-found, foot_start-not-last)
+pub returns-in_default-2-clause-foot : goal.returns-in_default-2-clause-foot
+returns-in_default-2-clause-foot c = search (rules, foot_start-not-last)

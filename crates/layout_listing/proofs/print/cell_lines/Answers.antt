@@ -1,5 +1,5 @@
 use borrow.Author.Rules.{rules}
-use Rattle.layout_listing.proofs.print.LineLaws.{cells-none, cells-put, cells-all}
+use Rattle.layout_listing.proofs.print.LineLaws.{cells-none, cells-put}
 use Rattle.layout_listing.proofs.print.cell_lines.Goals as goal
 
 pub loop-i-init : goal.loop-i-init
@@ -7,6 +7,3 @@ loop-i-init c = search (rules, cells-none)
 
 pub loop-i-preserved : goal.loop-i-preserved
 loop-i-preserved c = search (rules, cells-put)
-
-pub returns : goal.returns
-returns c = search cells-all

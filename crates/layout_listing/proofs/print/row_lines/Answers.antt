@@ -1,5 +1,5 @@
 use borrow.Author.Rules.{rules}
-use Rattle.layout_listing.proofs.print.LineLaws.{rows_none, rows-put, rows_all}
+use Rattle.layout_listing.proofs.print.LineLaws.{rows_none, rows-put}
 use Rattle.layout_listing.proofs.print.row_lines.Goals as goal
 
 pub loop-i-init : goal.loop-i-init
@@ -7,6 +7,3 @@ loop-i-init c = search (rules, rows_none)
 
 pub loop-i-preserved : goal.loop-i-preserved
 loop-i-preserved c = search (rules, rows-put)
-
-pub returns : goal.returns
-returns c = search rows_all

@@ -1,15 +1,15 @@
-use borrow.Author.Rules.{rules}
-use Rattle.page_listing.proofs.escape.ByteLaws.{line-next, line-all}
 use Rattle.writer.proofs.WritingLaws.{wrote_none}
+use Rattle.page_listing.proofs.escape.ByteLaws.{line-next, line-all}
 use mathlib.Core.List.{flat_map}
+use borrow.Author.Rules.{rules}
 use Rattle.page_listing.proofs.escape.escape_line.Goals as goal
 
-pub loop-i-init : goal.loop-i-init
+pub loop-b-init : goal.loop-b-init
 unfolding flat_map
-loop-i-init c = search (rules, wrote_none)
+loop-b-init c = search (rules, wrote_none)
 
-pub loop-i-preserved : goal.loop-i-preserved
-loop-i-preserved c = search (rules, line-next)
+pub loop-b-preserved : goal.loop-b-preserved
+loop-b-preserved c = search (rules, line-next)
 
 pub returns : goal.returns
 returns c = (search line-all, search rules)

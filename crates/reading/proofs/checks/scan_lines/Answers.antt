@@ -1,26 +1,18 @@
 use borrow.Author.Rules.{rules}
-use Rattle.reading.proofs.checks.ScanLaws.{lines_start, line-short, line-near, line-within, line-fits, line-columned, line_plain, line-scannable, line-outside, line-next, lines-known, plain_known}
+use Rattle.reading.proofs.checks.ScanLaws.{lines_start, line-within, line-fits, line_plain, line-scannable, line-outside, line-next, lines-known, plain_known}
 use mathlib.Core.Path.{ap}
 use mathlib.Core.Bool.{not}
 use Rattle.reading.proofs.checks.scan_lines.Goals as goal
 
 pub returns-then-known-text : goal.returns-then-known-text
-returns-then-known-text c = search (rules, plain_known)
+returns-then-known-text c =
+    plain_known _ _ _ _ _ _ _ _ c.plain_start-known.ensures.1 (search rules) (c.fill.ensures.after (λ y e. search rules)) (search rules)
 
 pub loop-y-init : goal.loop-y-init
 loop-y-init c = search lines_start
 
-pub overflow_cast-end : goal.overflow_cast-end
-overflow_cast-end c = search line-short
-
 pub overflow_add-end : goal.overflow_add-end
 overflow_add-end c = search line-fits
-
-pub bounds-columns-y : goal.bounds-columns-y
-bounds-columns-y c = search line-columned
-
-pub overflow_cast-column : goal.overflow_cast-column
-overflow_cast-column c = search line-near
 
 pub slice_bounds-scan_next-end : goal.slice_bounds-scan_next-end
 slice_bounds-scan_next-end c = search line-within

@@ -1,9 +1,16 @@
 -- `reading::limits::too_large` meets its contract: from its calls.
-use Rattle.reading.proofs.limits.LimitLaws.{many-lines, other-limits}
+use Rattle.std.proofs.Common.{arith}
+use Rattle.std.proofs.lemmas.Bool.Decides.{nat_tests}
+use Rattle.representation.specs.Lent.{drawing_of}
+use Rattle.reading.proofs.limits.LimitLaws.{over-listed, limits-apart}
 use Rattle.reading.proofs.limits.too_large.Goals as goal
 
-pub returns-then-lengths-gt-MAX_LINES : goal.returns-then-lengths-gt-MAX_LINES
-returns-then-lengths-gt-MAX_LINES c = search many-lines
+pub returns-then-any_over-2 : goal.returns-then-any_over-2
+returns-then-any_over-2 c =
+    let e = limits-apart (drawing_of c.args.drawing) c.requires in
+    grind (arith, nat_tests, over-listed 512 c.args.drawing.lengths.now, over-listed 255 c.args.drawing.columns.now)
 
-pub returns : goal.returns
-returns c = search other-limits
+pub returns-else-any_over-2 : goal.returns-else-any_over-2
+returns-else-any_over-2 c =
+    let e = limits-apart (drawing_of c.args.drawing) c.requires in
+    grind (arith, nat_tests, over-listed 512 c.args.drawing.lengths.now, over-listed 255 c.args.drawing.columns.now)

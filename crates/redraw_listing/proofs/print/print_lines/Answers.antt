@@ -2,23 +2,22 @@ use Rattle.redraw_listing.proofs.print.PrintLaws.{printed-none, line-within, lin
 use borrow.Author.Rules.{rules}
 use Rattle.redraw_listing.proofs.print.print_lines.Goals as goal
 
-pub loop-i-init : goal.loop-i-init
-loop-i-init c = search printed-none
+pub loop-length-init : goal.loop-length-init
+loop-length-init c = search printed-none
 
-pub overflow_add-stop : goal.overflow_add-stop
-overflow_add-stop c = search (rules, line-within)
-
-pub slice_bounds-copy-end : goal.slice_bounds-copy-end
-slice_bounds-copy-end c = search line-within
+pub split_at-requires : goal.split_at-requires
+split_at-requires c = search (rules, line-within)
 
 pub copy-end-requires : goal.copy-end-requires
-copy-end-requires c = search line-room
+copy-end-requires c = search (rules, line-room)
 
 pub byte-end-requires : goal.byte-end-requires
-byte-end-requires c = search feed-room
+byte-end-requires c = search (rules, feed-room)
 
-pub loop-i-preserved : goal.loop-i-preserved
-loop-i-preserved c = search printed-next
+pub loop-length-preserved : goal.loop-length-preserved
+loop-length-preserved c =
+    rw c.split_at.ensures.back
+    (printed-next _ _ _ c.loop-length.invariant c.loop-length-test.true (rw c.split_at.ensures.front at c.copy-end.ensures) c.byte-end.ensures)
 
 pub returns : goal.returns
-returns c = search printed-all
+returns c = search (rules, printed-all)

@@ -1,5 +1,5 @@
 -- `rule_lines::trim::all_blank` meets its contract. The invariant: all are blank where those before i and those from i on are.
-use Prim.Native.Nat.{◌-◌, ◌≤◌}
+use Prim.Native.Nat.{◌≤◌}
 use mathlib.Core.Path.{◌≡◌}
 use mathlib.Core.Bool.{◌&&◌}
 use lib.ListN.{length, drop}
@@ -7,8 +7,5 @@ use Rattle.seq.specs.Lists.{all}
 use Rattle.text.specs.Trim.{blank}
 use Rattle.rule_lines.proofs.trim.all_blank.Given as goal
 
-abbrev pub invariant-loop-i : goal.invariant-loop-i
-invariant-loop-i l = (l.i ≤ length l.part) × (all blank l.part ≡ (l.blanks && all blank (drop l.i l.part)))
-
-abbrev pub decreases-loop-i : goal.decreases-loop-i
-decreases-loop-i l = length l.part - l.i
+abbrev pub invariant-loop-b : goal.invariant-loop-b
+invariant-loop-b l = (l.b-index ≤ length l.part) × (all blank l.part ≡ (l.blanks && all blank (drop l.b-index l.part)))

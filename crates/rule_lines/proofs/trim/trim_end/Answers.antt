@@ -11,13 +11,13 @@ at-start : (p : ℕ × ℕ) → (p.0, 0 + p.1) ≡ p
 at-start p i = (p.0, zero-add p.1 i)
 
 pub slice_bounds-result-end : goal.slice_bounds-result-end
-slice_bounds-result-end c = search length-take-le
+slice_bounds-result-end c = search (rules, length-take-le)
 
 pub returns-then-not-is_blank : goal.returns-then-not-is_blank
 returns-then-not-is_blank c = search trim-stops
 
-pub loop-n-preserved : goal.loop-n-preserved
-loop-n-preserved c = search (rules, trim-goes-on)
+pub loop-i-preserved : goal.loop-i-preserved
+loop-i-preserved c = search (rules, trim-goes-on)
 
 pub returns : goal.returns
 returns c = (search at-start, search trim-leaves-none)

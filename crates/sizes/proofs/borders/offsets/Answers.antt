@@ -1,15 +1,9 @@
-use Rattle.sizes.proofs.borders.OffsetLaws.{first-known, offset-fits, next_fits, one_known, all_known}
+use Rattle.sizes.proofs.borders.OffsetLaws.{first-known, next_fits, one_known, all_known}
 use borrow.Author.Rules.{rules}
 use Rattle.sizes.proofs.borders.offsets.Goals as goal
 
 pub loop-i-init : goal.loop-i-init
 loop-i-init c = search (rules, first-known)
-
-pub overflow_add-at : goal.overflow_add-at
-overflow_add-at c = search offset-fits
-
-pub overflow_add-at-in-loop-i : goal.overflow_add-at-in-loop-i
-overflow_add-at-in-loop-i c = search next_fits
 
 pub loop-i-preserved : goal.loop-i-preserved
 loop-i-preserved c = search (rules, one_known)

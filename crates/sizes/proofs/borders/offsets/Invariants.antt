@@ -4,7 +4,4 @@ use Rattle.sizes.proofs.borders.OffsetLaws.{Adding}
 use Rattle.sizes.proofs.borders.offsets.Given as goal
 
 abbrev pub invariant-loop-i : goal.invariant-loop-i
-invariant-loop-i l = (l.i ≤ l.count) × Adding l.count l.sizes l.at l.i
-
-abbrev pub decreases-loop-i : goal.decreases-loop-i
-decreases-loop-i l = l.count - l.i
+invariant-loop-i l = Adding l.count l.sizes l.at l.i

@@ -4,7 +4,4 @@ use Rattle.sizes.proofs.borders.StartLaws.{Starting}
 use Rattle.sizes.proofs.borders.start_widths.Given as goal
 
 abbrev pub invariant-loop-k : goal.invariant-loop-k
-invariant-loop-k l = (l.k ≤ l.columns) × Starting l.cols l.columns l.sizes l.k
-
-abbrev pub decreases-loop-k : goal.decreases-loop-k
-decreases-loop-k l = l.columns - l.k
+invariant-loop-k l = Starting l.cols l.columns l.sizes l.k

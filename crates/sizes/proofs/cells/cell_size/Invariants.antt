@@ -4,7 +4,4 @@ use Rattle.sizes.proofs.cells.SizeLaws.{Sizing}
 use Rattle.sizes.proofs.cells.cell_size.Given as goal
 
 abbrev pub invariant-loop-i : goal.invariant-loop-i
-invariant-loop-i l = (l.i ≤ l.count) × Sizing l.text l.starts l.ends l.first l.lines l.columns l.i
-
-abbrev pub decreases-loop-i : goal.decreases-loop-i
-decreases-loop-i l = l.count - l.i
+invariant-loop-i l = Sizing l.text l.starts l.ends l.first l.lines l.columns l.i

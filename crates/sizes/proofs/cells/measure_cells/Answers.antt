@@ -11,23 +11,8 @@ cell_size-size-requires c = search (rules, cell-few, cell-measurable)
 pub overflow_cast-firsts : goal.overflow_cast-firsts
 overflow_cast-firsts c = search first_fits
 
-pub bounds-firsts-k : goal.bounds-firsts-k
-bounds-firsts-k c = search first-room
-
-pub overflow_cast-heights : goal.overflow_cast-heights
-overflow_cast-heights c = search lines_fit
-
-pub bounds-heights-k : goal.bounds-heights-k
-bounds-heights-k c = search height-room
-
-pub bounds-wides-k : goal.bounds-wides-k
-bounds-wides-k c = search wide_room
-
 pub overflow_add-first : goal.overflow_add-first
 overflow_add-first c = search next_fits
 
 pub loop-k-preserved : goal.loop-k-preserved
 loop-k-preserved c = search (rules, one-counted)
-
-pub returns : goal.returns
-returns c = search all-counted

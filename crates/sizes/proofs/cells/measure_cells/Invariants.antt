@@ -4,7 +4,4 @@ use Rattle.sizes.proofs.cells.CountLaws.{Counting}
 use Rattle.sizes.proofs.cells.measure_cells.Given as goal
 
 abbrev pub invariant-loop-k : goal.invariant-loop-k
-invariant-loop-k l = (l.k ≤ l.n) × Counting l.cells l.text l.starts l.ends l.n l.initial.firsts l.initial.heights l.initial.wides l.firsts l.heights l.wides l.first l.k
-
-abbrev pub decreases-loop-k : goal.decreases-loop-k
-decreases-loop-k l = l.n - l.k
+invariant-loop-k l = Counting l.cells l.text l.starts l.ends l.n l.initial.firsts l.initial.heights l.initial.wides l.firsts l.heights l.wides l.first l.k

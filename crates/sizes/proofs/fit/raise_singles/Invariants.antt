@@ -5,7 +5,4 @@ use Rattle.sizes.proofs.fit.TurnLaws.{Turning}
 use Rattle.sizes.proofs.fit.raise_singles.Given as goal
 
 abbrev pub invariant-loop-k : goal.invariant-loop-k
-invariant-loop-k l = (l.k ≤ l.n) × Turning l.cells l.n l.from_at l.span_at l.needs l.initial.raised raise_single 65535 l.raised l.k
-
-abbrev pub decreases-loop-k : goal.decreases-loop-k
-decreases-loop-k l = l.n - l.k
+invariant-loop-k l = Turning l.cells l.n l.from_at l.span_at l.needs l.initial.raised raise_single 65535 l.raised l.k

@@ -4,7 +4,4 @@ use Rattle.sizes.proofs.fit.TotalLaws.{Totalling}
 use Rattle.sizes.proofs.fit.total.Given as goal
 
 abbrev pub invariant-loop-i : goal.invariant-loop-i
-invariant-loop-i l = (l.i ≤ l.span) × Totalling l.from l.span l.sizes l.sum l.i
-
-abbrev pub decreases-loop-i : goal.decreases-loop-i
-decreases-loop-i l = l.span - l.i
+invariant-loop-i l = Totalling l.from l.span l.sizes l.sum l.i

@@ -1,5 +1,5 @@
 use borrow.Author.Rules.{rules}
-use Rattle.sizes.proofs.lines.TrimmedLaws.{none-trimmed, line-end, line-fits, start_fits, start-room, end-room, end_fits, end-small, one-trimmed, all-trimmed}
+use Rattle.sizes.proofs.lines.TrimmedLaws.{none-trimmed, line-end, line-fits, start_fits, start-room, end-room, end_fits, end-small, one-trimmed}
 use Rattle.sizes.proofs.lines.trim_lines.Goals as goal
 
 pub loop-i-init : goal.loop-i-init
@@ -14,20 +14,11 @@ slice_bounds-trim_end-end c = search (rules, line-end)
 pub overflow_cast-starts : goal.overflow_cast-starts
 overflow_cast-starts c = search (rules, start_fits)
 
-pub bounds-starts-i : goal.bounds-starts-i
-bounds-starts-i c = search (rules, start-room)
-
 pub overflow_add-ends : goal.overflow_add-ends
 overflow_add-ends c = search (rules, end_fits)
 
 pub overflow_cast-ends : goal.overflow_cast-ends
 overflow_cast-ends c = search (rules, end-small)
 
-pub bounds-ends-i : goal.bounds-ends-i
-bounds-ends-i c = search (rules, end-room)
-
 pub loop-i-preserved : goal.loop-i-preserved
 loop-i-preserved c = search (rules, one-trimmed)
-
-pub returns : goal.returns
-returns c = search (rules, all-trimmed)

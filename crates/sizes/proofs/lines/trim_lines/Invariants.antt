@@ -5,7 +5,4 @@ use Rattle.sizes.proofs.lines.TrimmedLaws.{Trimming}
 use Rattle.sizes.proofs.lines.trim_lines.Given as goal
 
 abbrev pub invariant-loop-i : goal.invariant-loop-i
-invariant-loop-i l = (l.i ≤ length l.lengths) × Trimming l.lengths l.text l.initial.starts l.initial.ends l.starts l.ends l.at l.i
-
-abbrev pub decreases-loop-i : goal.decreases-loop-i
-decreases-loop-i l = length l.lengths - l.i
+invariant-loop-i l = Trimming l.lengths l.text l.initial.starts l.initial.ends l.starts l.ends l.at l.i

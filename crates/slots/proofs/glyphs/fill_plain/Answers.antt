@@ -1,14 +1,11 @@
-use Rattle.slots.proofs.glyphs.PlainLaws.{bytes-start, bytes_next, glyphs-end, offsets-end}
+use mathlib.Core.Path.{refl, ap, ◌∙◌}
+use native.Mathlib.Omega.{arith}
+use Rattle.representation.specs.Arrays.{glyph_code}
+use Rattle.slots.proofs.glyphs.PlainLaws.{bytes-start, bytes_next}
 use Rattle.slots.proofs.glyphs.fill_plain.Goals as goal
 
-pub loop-byte-init : goal.loop-byte-init
-loop-byte-init c = search bytes-start
+pub loop-n-init : goal.loop-n-init
+loop-n-init c = search bytes-start
 
-pub loop-byte-preserved : goal.loop-byte-preserved
-loop-byte-preserved c = search bytes_next
-
-pub returns-clause-glyphs_after : goal.returns-clause-glyphs_after
-returns-clause-glyphs_after c = search (glyphs-end, offsets-end)
-
-pub returns-clause-offsets_after : goal.returns-clause-offsets_after
-returns-clause-offsets_after c = search (glyphs-end, offsets-end)
+pub loop-n-preserved : goal.loop-n-preserved
+loop-n-preserved c = bytes_next _ _ _ _ _ _ _ _ c.loop-n.invariant _ _ (omega arith) c.requires.line_in_bounds.0 c.requires.line_in_bounds.1 refl (c.from.ensures ∙ ap glyph_code c.of.ensures)

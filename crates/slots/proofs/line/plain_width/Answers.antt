@@ -2,8 +2,5 @@
 use Rattle.slots.proofs.line.PlainLaws.{plain-count}
 use Rattle.slots.proofs.line.plain_width.Goals as goal
 
-pub returns-clause-result_value : goal.returns-clause-result_value
-returns-clause-result_value c = search plain-count
-
-pub returns-clause-result_value_2 : goal.returns-clause-result_value_2
-returns-clause-result_value_2 c = search plain-count
+pub returns-clause-slots : goal.returns-clause-slots
+returns-clause-slots c = search plain-count

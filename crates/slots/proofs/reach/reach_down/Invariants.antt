@@ -4,6 +4,3 @@ use Rattle.slots.proofs.reach.reach_down.Given as goal
 
 abbrev pub invariant-loop-y : goal.invariant-loop-y
 invariant-loop-y l = DownRows l.height l.width l.glyphs l.initial.down l.down l.ends l.y
-
-abbrev pub decreases-loop-y : goal.decreases-loop-y
-decreases-loop-y l = l.y

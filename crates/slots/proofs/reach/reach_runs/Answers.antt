@@ -1,4 +1,4 @@
-use Rattle.slots.proofs.reach.ReachLaws.{right-starts, right-next, right-ends}
+use Rattle.slots.proofs.reach.ReachLaws.{right-starts, right-next}
 use Rattle.slots.proofs.reach.reach_runs.Goals as goal
 
 pub loop-x-init : goal.loop-x-init
@@ -6,6 +6,3 @@ loop-x-init c = search right-starts
 
 pub loop-x-preserved : goal.loop-x-preserved
 loop-x-preserved c = search right-next
-
-pub returns : goal.returns
-returns c = search right-ends

@@ -4,6 +4,3 @@ use Rattle.slots.proofs.reach.reach_runs.Given as goal
 
 abbrev pub invariant-loop-x : goal.invariant-loop-x
 invariant-loop-x l = RightSoFar l.width l.y l.glyphs l.initial.right l.right l.x l.last l.goes_on
-
-abbrev pub decreases-loop-x : goal.decreases-loop-x
-decreases-loop-x l = l.x

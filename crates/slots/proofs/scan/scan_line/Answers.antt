@@ -1,20 +1,14 @@
 use borrow.Author.Rules.{rules}
-use Rattle.slots.proofs.scan.ScanLaws.{scan-starts, next-plain, next-ascii, next-narrow, marks-room, next_marks, next-wide, scan-ends, scan-outside, scan-control, in_set-known, span-few, count_fits}
-use mathlib.Core.Path.{ap}
+use Rattle.slots.proofs.scan.ScanLaws.{next-plain, next-ascii, next-narrow, marks-room, next_marks, next-wide, scan-ends, scan-outside, scan-control, span-few, count_fits}
+use mathlib.Core.Path.{ap, refl}
 use mathlib.Core.Bool.{not}
 use Rattle.slots.proofs.scan.scan_line.Goals as goal
-
-pub loop-byte-init : goal.loop-byte-init
-loop-byte-init c = search scan-starts
 
 pub loop-byte-preserved-then-within : goal.loop-byte-preserved-then-within
 loop-byte-preserved-then-within c = search next-plain
 
 pub returns-then-not-in_set : goal.returns-then-not-in_set
 returns-then-not-in_set c = search scan-control
-
-pub span_in_set-count-requires : goal.span_in_set-count-requires
-span_in_set-count-requires c = search in_set-known
 
 pub put_within-requires-then-a-lt128 : goal.put_within-requires-then-a-lt128
 put_within-requires-then-a-lt128 c = search (rules, span-few)
@@ -24,14 +18,14 @@ overflow_add-n-then-a-lt128 c = search count_fits
 
 pub loop-byte-preserved-then-a-lt128 : goal.loop-byte-preserved-then-a-lt128
 loop-byte-preserved-then-a-lt128 c =
-    next-ascii _ _ _ _ _ _ _ _ _ c.loop-byte.invariant c.requires.2 c.requires.3 _ c.widened-a.ensures _ _ c.if-a-lt128.true c.in_set.ensures (ap not c.if-not-in_set.false) c.span_in_set-count.ensures _ _ c.put_within-then-a-lt128.ensures
+    next-ascii _ _ _ _ _ _ _ _ _ c.loop-byte.invariant c.requires.2 c.requires.3 _ refl _ _ c.if-a-lt128.true c.in_set.ensures (ap not c.if-not-in_set.false) c.span_in_set-count.ensures _ _ c.put_within-then-a-lt128.ensures
 
 pub returns-then-not-is_two : goal.returns-then-not-is_two
 returns-then-not-is_two c = search scan-outside
 
 pub loop-byte-preserved-then-a-lt204 : goal.loop-byte-preserved-then-a-lt204
 loop-byte-preserved-then-a-lt204 c =
-    next-narrow _ _ _ _ _ _ _ _ _ c.loop-byte.invariant c.requires.2 c.requires.3 _ c.widened-a.ensures _ (ap not c.if-not-is_two.false) c.is_two.ensures c.if-a-lt128.false c.if-a-lt204.true _ _ c.put_within-then-a-lt204.ensures
+    next-narrow _ _ _ _ _ _ _ _ _ c.loop-byte.invariant c.requires.2 c.requires.3 _ refl _ (ap not c.if-not-is_two.false) c.is_two.ensures c.if-a-lt128.false c.if-a-lt204.true _ _ c.put_within-then-a-lt204.ensures
 
 pub returns-then-not-is_two-2 : goal.returns-then-not-is_two-2
 returns-then-not-is_two-2 c = search scan-outside
@@ -47,7 +41,7 @@ returns-then-not-is_three c = search scan-outside
 
 pub loop-byte-preserved : goal.loop-byte-preserved
 loop-byte-preserved c =
-    next-wide _ _ _ _ _ _ _ _ _ c.loop-byte.invariant c.requires.2 c.requires.3 _ c.widened-a.ensures _ (ap not c.if-not-is_three.false) c.is_three.ensures c.if-a-lt224.false _ _ c.put_within-else-a-lt224.ensures
+    next-wide _ _ _ _ _ _ _ _ _ c.loop-byte.invariant c.requires.2 c.requires.3 _ refl _ (ap not c.if-not-is_three.false) c.is_three.ensures c.if-a-lt224.false _ _ c.put_within-else-a-lt224.ensures
 
 pub returns : goal.returns
 returns c = search scan-ends

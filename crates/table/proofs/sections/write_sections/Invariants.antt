@@ -1,10 +1,6 @@
 -- `table::sections::write_sections` meets its contract. The invariant: the sections of the first k rows are written.
-use Prim.Native.Nat.{◌+◌, ◌-◌, ◌≤◌}
 use Rattle.table.proofs.sections.WriteLaws.{SectionsWritten}
 use Rattle.table.proofs.sections.write_sections.Given as goal
 
 abbrev pub invariant-loop-k : goal.invariant-loop-k
-invariant-loop-k l = (l.k + 1 ≤ l.tops.count) × SectionsWritten l.parts l.tops l.initial.out l.k l.out
-
-abbrev pub decreases-loop-k : goal.decreases-loop-k
-decreases-loop-k l = l.tops.count - l.k
+invariant-loop-k l = SectionsWritten l.parts l.tops l.initial.out l.k l.out

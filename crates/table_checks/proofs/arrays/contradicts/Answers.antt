@@ -1,21 +1,27 @@
 -- `table_checks::arrays::contradicts` meets its contract: from its calls.
-use Rattle.table_checks.proofs.arrays.ArrayLaws.{wrong-sizes, cols-room, cells-room, lengths-room, sums-and-codes}
-use borrow.Author.Rules.{rules}
-use mathlib.Core.Path.{ap}
-use mathlib.Core.Bool.{not}
+use Rattle.table_checks.proofs.arrays.ArrayLaws.{unshaped, lines-wrong, bytes-wrong, uncounted, unfilled, codes-left}
+use mathlib.Core.Path.{sym}
 use Rattle.table_checks.proofs.arrays.contradicts.Goals as goal
+use Rattle.table_checks.proofs.arrays.contradicts.Goals.{then-not-sized-via-then-not-sized, then-not-sized-via-else-not-sized+then-table, then-not-sized-via-else-not-sized+else-table+then-table-2}
+use Rattle.table_checks.proofs.arrays.contradicts.Goals.{then-not-adds_up-via-then-not-adds_up, then-not-adds_up-via-else-not-adds_up+then-not-adds_up-2}
 
-pub returns-then-not-sized-lengths : goal.returns-then-not-sized-lengths
-returns-then-not-sized-lengths c = search wrong-sizes
+pub returns-then-not-sized : goal.returns-then-not-sized
+returns-then-not-sized c =
+    elim c.then-not-sized.branch [
+      | then-not-sized-via-then-not-sized w ↦ unshaped _ _ (sym (rw c.of-shape.ensures at w.if-not-sized.ensures))
+      | then-not-sized-via-else-not-sized+then-table w ↦ lines-wrong _ _ w.if-table.true
+      | then-not-sized-via-else-not-sized+else-table+then-table-2 w ↦ bytes-wrong _ _ w.if-table-2.true
+    ]
 
-pub adds_up-requires : goal.adds_up-requires
-adds_up-requires c = search (rules, cells-room)
-
-pub adds_up-requires-2 : goal.adds_up-requires-2
-adds_up-requires-2 c = (search rules, search rules, search (lengths-room, (ap not c.if-not-sized-lengths.false)))
-
-pub known_codes-requires : goal.known_codes-requires
-known_codes-requires c = search cols-room
+pub returns-then-not-adds_up : goal.returns-then-not-adds_up
+returns-then-not-adds_up c =
+    let sized = sym (rw c.of-shape.ensures at c.if-not-sized.ensures) in
+    elim c.then-not-adds_up.branch [
+      | then-not-adds_up-via-then-not-adds_up w ↦ uncounted _ _ sized c.if-table.false c.if-table-2.false w.if-not-adds_up.ensures
+      | then-not-adds_up-via-else-not-adds_up+then-not-adds_up-2 w ↦ unfilled _ _ sized c.if-table.false c.if-table-2.false w.if-not-adds_up-2.ensures
+    ]
 
 pub returns : goal.returns
-returns c = search sums-and-codes
+returns c =
+    codes-left _ _ (sym (rw c.of-shape.ensures at c.if-not-sized.ensures)) c.if-table.false c.if-table-2.false
+    c.if-not-adds_up.ensures c.if-not-adds_up-2.ensures (rw c.of-shape.ensures at c.known_codes.ensures)

@@ -1,28 +1,21 @@
-use Rattle.table_checks.proofs.rules.OrderLaws.{sum_fits}
-use Rattle.table_checks.proofs.cover.CoverLaws.{right-fits, bottom-fits, none-heaped, cell-placed, not-level, cover-told}
+use Rattle.table_checks.proofs.cover.CoverLaws.{none-heaped, cell-placed, not-level, cover-told}
 use borrow.Author.Rules.{rules}
+use mathlib.Core.Path.{ap}
+use mathlib.Core.Bool.{not}
 use Rattle.table_checks.proofs.cover.covers_once.Goals as goal
 
 pub loop-k-init : goal.loop-k-init
 loop-k-init c = search (rules, none-heaped)
 
-pub overflow_add-right-in-loop-k : goal.overflow_add-right-in-loop-k
-overflow_add-right-in-loop-k c = sum_fits (c.shared_slice_known-in-loop-k-3-1.given _) (c.shared_slice_known-in-loop-k-3-1.given _)
-
-pub all_at-requires : goal.all_at-requires
-all_at-requires c = search (rules, right-fits)
-
 pub returns-then-not-all_at : goal.returns-then-not-all_at
-returns-then-not-all_at c = search not-level
-
-pub overflow_add-row : goal.overflow_add-row
-overflow_add-row c = sum_fits (c.shared_slice_known-in-loop-k-4-1.given _) (c.shared_slice_known-in-loop-k-4-1.given _)
-
-pub raised-bottoms-requires : goal.raised-bottoms-requires
-raised-bottoms-requires c = search (rules, right-fits, bottom-fits)
+returns-then-not-all_at c =
+    not-level _ _ _ _ c.requires.laid _ c.loop-k-test.true _ c.loop-k.invariant c.requires.ordered _
+    (rw (c.right.ensures, c.at-cell.ensures) at c.all_at.ensures) (ap not c.if-not-all_at.true)
 
 pub loop-k-preserved : goal.loop-k-preserved
-loop-k-preserved c = search (rules, cell-placed)
+loop-k-preserved c =
+    cell-placed _ _ _ _ c.requires.laid _ c.loop-k-test.true _ c.loop-k.invariant _ (rw (c.right.ensures, c.at-cell.ensures) at c.all_at.ensures)
+    (ap not c.if-not-all_at.false) _ (rw (c.right-in-loop-k.ensures, c.bottom.ensures, c.at-cell.ensures) at c.raise.ensures)
 
 pub returns : goal.returns
 returns c = search cover-told

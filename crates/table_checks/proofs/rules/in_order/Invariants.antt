@@ -1,5 +1,5 @@
--- `table_checks::rules::in_order` meets its contract. The invariant: all cells are in order where those from k on are.
-use Prim.Native.Nat.{◌-◌, ◌≤◌}
+-- `table_checks::rules::in_order` meets its contract. The invariant: all cells are in order where those from k - 1 on are.
+use Prim.Native.Nat.{◌-◌}
 use mathlib.Core.Path.{◌≡◌}
 use lib.ListN.{drop}
 use Rattle.seq.specs.Lists.{neighbours}
@@ -8,7 +8,4 @@ use Rattle.table_checks.specs.Places.{places_of}
 use Rattle.table_checks.proofs.rules.in_order.Given as goal
 
 abbrev pub invariant-loop-k : goal.invariant-loop-k
-invariant-loop-k l = (l.k ≤ l.n) × (neighbours comes_before (places_of l.n l.cells) ≡ neighbours comes_before (drop l.k (places_of l.n l.cells)))
-
-abbrev pub decreases-loop-k : goal.decreases-loop-k
-decreases-loop-k l = l.n - l.k
+invariant-loop-k l = neighbours comes_before (places_of l.n l.cells) ≡ neighbours comes_before (drop (l.k - 1) (places_of l.n l.cells))

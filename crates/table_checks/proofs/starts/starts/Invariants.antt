@@ -1,11 +1,7 @@
 -- `table_checks::starts::starts` meets its contract. The invariant: the starts of the first k cells are marked.
-use Prim.Native.Nat.{◌-◌, ◌≤◌}
 use Rattle.representation.specs.Edges.{Marks}
 use Rattle.table_checks.specs.Entries.{entries}
 use Rattle.table_checks.proofs.starts.starts.Given as goal
 
 abbrev pub invariant-loop-k : goal.invariant-loop-k
-invariant-loop-k l = (l.k ≤ l.n) × Marks (entries l.from 5 l.k l.cells) l.marks.each
-
-abbrev pub decreases-loop-k : goal.decreases-loop-k
-decreases-loop-k l = l.n - l.k
+invariant-loop-k l = Marks (entries l.from 5 l.k l.cells) l.marks.each

@@ -4,8 +4,5 @@ use lib.ListN.{length}
 use Rattle.text.proofs.ByteColumnsLaws.{Added}
 use Rattle.utf8.proofs.columns.added_columns.Given as goal
 
-abbrev pub invariant-loop-i : goal.invariant-loop-i
-invariant-loop-i l = Added l.line l.i l.n
-
-abbrev pub decreases-loop-i : goal.decreases-loop-i
-decreases-loop-i l = length l.line - l.i
+abbrev pub invariant-loop-b : goal.invariant-loop-b
+invariant-loop-b l = Added l.line l.b-index l.n

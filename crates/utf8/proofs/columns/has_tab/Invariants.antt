@@ -7,8 +7,5 @@ use Rattle.seq.specs.Lists.{any}
 use Rattle.text.specs.Columns.{is_tab}
 use Rattle.utf8.proofs.columns.has_tab.Given as goal
 
-abbrev pub invariant-loop-i : goal.invariant-loop-i
-invariant-loop-i l = (l.i ≤ length l.line) × (any is_tab l.line ≡ (l.some || any is_tab (drop l.i l.line)))
-
-abbrev pub decreases-loop-i : goal.decreases-loop-i
-decreases-loop-i l = length l.line - l.i
+abbrev pub invariant-loop-b : goal.invariant-loop-b
+invariant-loop-b l = (l.b-index ≤ length l.line) × (any is_tab l.line ≡ (l.some || any is_tab (drop l.b-index l.line)))

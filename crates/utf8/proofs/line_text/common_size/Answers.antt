@@ -1,5 +1,4 @@
 -- `utf8::line_text::common_size` meets its contract, by the first byte's range.
-use mathlib.Core.Path.{refl}
 use Rattle.utf8.proofs.CommonLaws.{common-ascii, common-narrow, common-mark, common-han}
 use Rattle.utf8.proofs.line_text.common_size.Goals as goal
 
@@ -14,12 +13,3 @@ returns-then-continues_at-2 c = search common-mark
 
 pub returns-then-continues_at-4 : goal.returns-then-continues_at-4
 returns-then-continues_at-4 c = search common-han
-
-pub returns-else-continues_at-4 : goal.returns-else-continues_at-4
-returns-else-continues_at-4 c = λ some. absurd (some refl)
-
-pub returns-else-continues_at-3 : goal.returns-else-continues_at-3
-returns-else-continues_at-3 c = λ some. absurd (some refl)
-
-pub returns-else-within-3 : goal.returns-else-within-3
-returns-else-within-3 c = λ some. absurd (some refl)

@@ -6,8 +6,5 @@ use lib.ListN.{length, drop}
 use Rattle.text.specs.Utf8.{plain}
 use Rattle.utf8.proofs.line_text.is_plain.Given as goal
 
-abbrev pub invariant-loop-i : goal.invariant-loop-i
-invariant-loop-i l = (l.i ≤ length l.line) × (plain l.line ≡ (l.all && plain (drop l.i l.line)))
-
-abbrev pub decreases-loop-i : goal.decreases-loop-i
-decreases-loop-i l = length l.line - l.i
+abbrev pub invariant-loop-b : goal.invariant-loop-b
+invariant-loop-b l = (l.b-index ≤ length l.line) × (plain l.line ≡ (l.all && plain (drop l.b-index l.line)))

@@ -3,26 +3,29 @@ use Rattle.text.proofs.Utf8Laws.{well-on, end-inside, end_fits, fewer-left, ill-
 use Rattle.utf8.proofs.CommonLaws.{sized_on, sized_inside, sized-fits, sized-left}
 use Rattle.utf8.proofs.line_text.well_decoded.Goals as goal
 
-pub returns-in_default : goal.returns-in_default
-returns-in_default c = search ill-formed
-
 pub overflow_add-at : goal.overflow_add-at
-overflow_add-at c = search (rules, end_fits)
+overflow_add-at c = let fits = sized-fits c.args.line.now c.loop-at.at c.in-Some.common c.in-Some.ensures in search (rules, fits)
 
-pub loop-at-smaller-then-common-eq0 : goal.loop-at-smaller-then-common-eq0
-loop-at-smaller-then-common-eq0 c = search (rules, fewer-left)
+pub loop-at-smaller-in-Some : goal.loop-at-smaller-in-Some
+loop-at-smaller-in-Some c = search (rules, sized-left)
 
-pub loop-at-preserved-then-common-eq0 : goal.loop-at-preserved-then-common-eq0
-loop-at-preserved-then-common-eq0 c = search (rules, end-inside, well-on)
+pub loop-at-preserved-in-Some : goal.loop-at-preserved-in-Some
+loop-at-preserved-in-Some c = (
+  sized_inside c.args.line.now c.loop-at.at c.in-Some.common c.in-Some.ensures,
+  sized_on c.args.line.now c.loop-at.at c.in-Some.common c.in-Some.ensures c.loop-at.invariant.1,
+)
 
-pub overflow_add-at-else-common-eq0 : goal.overflow_add-at-else-common-eq0
-overflow_add-at-else-common-eq0 c = search (rules, sized-fits)
+pub returns-in_default-decode : goal.returns-in_default-decode
+returns-in_default-decode c = search ill-formed
+
+pub overflow_add-at-in_default : goal.overflow_add-at-in_default
+overflow_add-at-in_default c = search (rules, end_fits)
 
 pub loop-at-smaller : goal.loop-at-smaller
-loop-at-smaller c = search (rules, sized-left)
+loop-at-smaller c = search (rules, fewer-left)
 
 pub loop-at-preserved : goal.loop-at-preserved
-loop-at-preserved c = search (rules, sized_inside, sized_on)
+loop-at-preserved c = search (rules, end-inside, well-on)
 
 pub returns : goal.returns
 returns c = search well-to-the-end

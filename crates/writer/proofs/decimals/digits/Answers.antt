@@ -18,4 +18,4 @@ loop-i-preserved c =
     (more.0, c.loop-i.invariant.1, more.1, more.2)
 
 pub returns : goal.returns
-returns c = search digits-none
+returns c = search (rules, digits-none)

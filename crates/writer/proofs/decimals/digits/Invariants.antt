@@ -7,6 +7,3 @@ use Rattle.writer.proofs.decimals.digits.Given as goal
 
 abbrev pub invariant-loop-i : goal.invariant-loop-i
 invariant-loop-i l = (l.i ≤ 20) × (length l.initial.digits ≡ 20) × (length l.digits ≡ 20) × (digits_onto l.i l.left (drop l.i l.digits) ≡ decimal l.number)
-
-abbrev pub decreases-loop-i : goal.decreases-loop-i
-decreases-loop-i l = l.i

@@ -1,20 +1,17 @@
+-- The chain's fold, from the first column on.
+use Prim.Native.Nat.{min}
+use mathlib.Core.Path.{◌∙◌}
 use native.Mathlib.Omega.{arith}
 use borrow.Author.Rules.{rules}
-use Rattle.seq.proofs.Prefixes.{smallest-one}
-use Rattle.trace.proofs.skyline.SkyLaws.{lowest-on, lowest-whole}
+use borrow.Author.Tests.{tests}
+use Rattle.std.proofs.lemmas.Iterator.{YieldsList-from_slice}
+use Rattle.std.proofs.lemmas.Iterator.Consumers.{fold_from_yields_List}
+use Rattle.trace.specs.Skylines.{sky_of}
+use Rattle.trace.proofs.skyline.SkyLaws.{sky-length, lowest-folded}
 use Rattle.trace.proofs.skyline.Skyline.lowest.Goals as goal
-use Rattle.trace.proofs.skyline.Skyline.lowest.Goals.{else-bottom-level, then-bottom-level}
-
-pub loop-x-init : goal.loop-x-init
-loop-x-init c = search (rules, smallest-one)
-
-pub loop-x-preserved : goal.loop-x-preserved
-loop-x-preserved c = (
-  search rules,
-  search rules,
-  lowest-on c.args.self.bottoms c.loop-x.x c.loop-x.level c.loop-x.invariant.2 _ (search rules) (search rules)
-      (elim c.if-bottom-level.branch [ then-bottom-level w ↦ omega arith | else-bottom-level w ↦ omega arith ]),
-)
 
 pub returns : goal.returns
-returns c = search lowest-whole
+returns c =
+    let sky = sky_of c.args.self.now in
+    fold_from_yields_List _ min _ _ c.fold-lowest.ensures.ran (YieldsList-from_slice sky cc) (λ a x b q k. search (rules, tests))
+    ∙ (rw c.levels-levels.ensures (lowest-folded sky (omega (arith, sky-length c.args.self.now, c.args.self.now.some))))

@@ -6,4 +6,4 @@ use Rattle.seq.proofs.Prefixes.{take-replicate}
 use Rattle.trace.proofs.skyline.Skyline.new.Goals as goal
 
 pub returns : goal.returns
-returns c = (search rules, search rules, take-replicate (c.args.width - 1) 127 0 (omega arith))
+returns c = (search rules, take-replicate (c.args.width - 1) 127 0 (omega arith))

@@ -1,0 +1,2 @@
+-- Where a line of the text stands.
+pub mod LetteredLaws

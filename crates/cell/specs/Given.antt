@@ -3,4 +3,4 @@ use Rattle.cell.specs.Text as text
 use Rattle.cell.specs.declared.source.Source.{Source}
 
 abbrev pub source_of : Source → text.Source
-source_of s = text.source s.drawing.lengths.now s.drawing.columns.now s.drawing.text.now s.starts.now s.offsets.now
+source_of s = text.source s.lengths.now s.columns.now s.text.now s.starts.now s.offsets.now

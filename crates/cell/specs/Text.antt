@@ -1,5 +1,5 @@
 -- Document 01, "Cutting": the lines of a table read, from the arrays that reading a drawing leaves.
-use Rattle.std.specs.Prelude.{ℕ, ◌+◌, ◌≤◌, ◌<◌, ◌≡◌, length, get_or, take}
+use Rattle.std.specs.Prelude.{ℕ, ◌+◌, ◌*◌, ◌≤◌, ◌<◌, ◌≡◌, length, get_or, take}
 use mathlib.Core.List.{List, map, flat_map, Memᴰ}
 use Rattle.seq.specs.Lists.{sum}
 use Rattle.grid.specs.Limits.{max_bytes}
@@ -7,13 +7,14 @@ use Rattle.grid.specs.Values.{Rect, Fragment, no_line}
 use Rattle.grid.specs.Layout.{inner_lines}
 use Rattle.grid.specs.Cut.{cut, drop_empty_last}
 use Rattle.grid.specs.CutCall.{cut_numbers}
-use Rattle.grid.specs.Flat.{lines_from}
+use Rattle.grid.specs.Flat.{lines_from, join_text}
 use Rattle.grid.specs.LayoutCall.{slot_space}
-use Rattle.representation.specs.Arrays.{code_at}
+use Rattle.representation.specs.Arrays.{code_at, rects_of}
 use Rattle.representation.specs.Sheet.{Sheet}
 use Rattle.representation.specs.LayoutEntries.{Inside}
 use Rattle.reading.specs.Call.{SheetArrays}
 use Rattle.fragments.specs.declared.part.Piece.{Piece}
+use Rattle.cell.specs.declared.pieces.TextSize.{TextSize}
 
 -- how many bytes all cells have at most: 65,536 in each of 1,024
 abbrev pub most_text : ℕ
@@ -95,3 +96,22 @@ no_rect = record { top = 0; left = 0; bottom = 0; right = 0 }
 abbrev pub CountedBy : (Rect → ℕ) → List Rect → List ℕ → Type 0
 CountedBy f rs counts =
     (length rs ≤ length counts) × ((k : ℕ) → k < length rs → get_or counts k 0 ≡ f (get_or rs k no_rect))
+
+-- a drawing whose rectangles can be measured, wherever its lines start
+pub record Preparable (lengths columns text offsets rects : List ℕ) (n : ℕ) (starts counts : List ℕ) : Type 0 where
+  pub sheet : Sheet lengths columns text
+  pub few_bytes : length text ≤ max_bytes
+  pub offset_room : slot_space ≤ length offsets
+  pub few : n ≤ 1024
+  pub rect_room : 4 * n ≤ length rects
+  pub start_room : length lengths ≤ length starts
+  pub count_room : n ≤ length counts
+  pub framed : (starts : List ℕ) → AllFramed (source lengths columns text starts offsets) (rects_of n rects)
+
+-- and what was measured
+pub record Prepared (s : Source) (rs : List Rect) (counts : List ℕ) (size : TextSize) : Type 0 where
+  pub ready : SourceReady s
+  pub lines : size.lines ≡ length (all_lines s rs)
+  pub bytes : size.bytes ≡ length (join_text (all_lines s rs))
+  pub counted : CountedBy (λ r. length (kept_lines s r)) rs counts
+  pub few_bytes : size.bytes ≤ most_text

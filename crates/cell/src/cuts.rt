@@ -18,7 +18,7 @@ fn write_cut(entries: [u16; 4], at: usize, out: &mut [u16])
     out[at..at + 4].copy_from_slice(&entries);
 }
 
-impl Source<'_> {
+impl Source<'_, '_> {
     // For each inner line of a cell its index, where its cut starts and ends in it, and its column.
     pub fn write_cuts(&self, rect: Rect, out: &mut [u16])
         requires framed { Framed (source_of self.now) (rect_of rect) }

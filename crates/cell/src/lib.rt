@@ -50,7 +50,9 @@ fn finish_cell(
     }
     line_starts(traced.drawing.lengths, starts);
     let source = Source {
-        drawing: traced.drawing,
+        lengths: traced.drawing.lengths,
+        columns: traced.drawing.columns,
+        text: traced.drawing.text,
         offsets: traced.offsets,
         starts,
     };

@@ -10,7 +10,7 @@ use representation::rect::Rect;
 use text::ByteAt;
 use writer::copy;
 
-impl Source<'_> {
+impl Source<'_, '_> {
     // The first `count` lines of a cell: their lengths from entry `at` on, and their text from `byte`
     // on. Answers where the text ends.
     pub fn write_lines(

@@ -5,8 +5,8 @@ ghost use Rattle.seq.specs.Lists.{sum};
 ghost use Rattle.grid.specs.Flat.{join_text};
 ghost use Rattle.representation.specs.Lent.{rect_of};
 ghost use Rattle.representation.specs.Traced.{rects_held};
-ghost use Rattle.cell.specs.Text.{most_text, cut_between, kept_lines, all_lines};
-ghost use Rattle.cell.specs.Text.{Cuttable, PieceOf, Framed, AllFramed, CountedBy};
+ghost use Rattle.cell.specs.Text.{most_text, source, cut_between, kept_lines, all_lines};
+ghost use Rattle.cell.specs.Text.{Cuttable, PieceOf, Framed, AllFramed, CountedBy, Preparable, Prepared};
 ghost use Rattle.cell.specs.Given.{source_of};
 
 use crate::source::Source;
@@ -36,17 +36,16 @@ pub fn line_starts(lengths: &[u16], starts: &mut [u16])
     }
 }
 
-impl<'a> Source<'a> {
+impl<'t> Source<'_, 't> {
     // Where the cut of line y between two columns starts and ends in it, and its column.
     pub fn piece_at(&self, left: Column, right: Column, y: usize) -> Piece
         requires { Cuttable (source_of self.now) left.0 right.0 y }
         ensures { PieceOf (source_of self.now) left.0 right.0 y result }
     {
-        let drawing = self.drawing;
         let from = self.starts[y] as usize;
-        let to = from + drawing.lengths[y] as usize;
-        let line = &drawing.text[from..to];
-        let column = Column(drawing.columns[y] as usize);
+        let to = from + self.lengths[y] as usize;
+        let line = &self.text[from..to];
+        let column = Column(self.columns[y] as usize);
         let border = byte_at(self.offsets, y, left);
         let start = ByteAt(border.0 + 1);
         let end = byte_at(self.offsets, y, right);
@@ -54,7 +53,7 @@ impl<'a> Source<'a> {
     }
 
     // What lies between two columns of line y, cut.
-    pub fn cut_line(&self, left: Column, right: Column, y: usize) -> &'a [u8]
+    pub fn cut_line(&self, left: Column, right: Column, y: usize) -> &'t [u8]
         requires { Cuttable (source_of self.now) left.0 right.0 y }
         ensures { result.now ≡ cut_between (source_of self.now) left.0 right.0 y }
     {
@@ -62,7 +61,7 @@ impl<'a> Source<'a> {
         let at = self.starts[y] as usize;
         let from = at + piece.start.0;
         let to = at + piece.end.0;
-        &self.drawing.text[from..to]
+        &self.text[from..to]
     }
 
     // How many lines of a cell are kept, and their bytes.
@@ -102,4 +101,30 @@ impl<'a> Source<'a> {
         }
         TextSize { lines, bytes }
     }
+}
+
+// Where each line starts, and how many lines and bytes all cells have. `starts` and `counts` are
+// working space.
+pub fn prepare(
+    lengths: &[u16],
+    columns: &[u16],
+    text: &[u8],
+    offsets: &[u16],
+    rects: Rects<'_>,
+    starts: &mut [u16],
+    counts: &mut [u8],
+) -> TextSize
+    requires { Preparable lengths.now columns.now text.now offsets.now rects.array.now rects.count starts.old counts.old }
+    ensures { let sheet = source lengths.now columns.now text.now starts.new offsets.now in
+        Prepared sheet (rects_held rects.entry) counts.new result }
+{
+    line_starts(lengths, starts);
+    let source = Source {
+        lengths,
+        columns,
+        text,
+        offsets,
+        starts,
+    };
+    source.measure(rects, counts)
 }

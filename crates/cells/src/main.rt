@@ -2,7 +2,7 @@
 #![tactic(auto)]
 
 fn main(rt: HostRuntime) {
-    input::answer_only(
+    input::answer_only::<196608, _>(
         &rt,
         b"cells",
         |sheet, out| table_listing::list_cells(sheet, out),

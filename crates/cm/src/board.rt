@@ -14,6 +14,6 @@ pub struct Board<'a> {
     pub cells: usize,
     pub rects: &'a [u8],
     pub canvas: &'a [u16],
-    pub lettering: Lettering<'a>,
+    pub lettering: Lettering<'a, 'a>,
     pub ghost near: { origin.0 ≤ 255 },
 }

@@ -140,7 +140,7 @@ fn finish(
 pub fn draw_sized(
     origin: Column,
     plan: &Plan<'_>,
-    lettering: Lettering<'_>,
+    lettering: Lettering<'_, '_>,
     rects: &mut [u8],
     canvas: &mut [u16],
     out_lengths: &mut [u16],

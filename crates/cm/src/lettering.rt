@@ -7,15 +7,15 @@ ghost use Rattle.cm.specs.Bears.{LettersOf};
 
 // Where each of its lines starts and ends, each cell's first line, and how many it has.
 #[derive(Clone, Copy)]
-pub struct Lettering<'a> {
+pub struct Lettering<'a, 'w> {
     pub text: &'a [u8],
-    pub starts: &'a [u16],
-    pub ends: &'a [u16],
-    pub firsts: &'a [u16],
-    pub heights: &'a [u16],
+    pub starts: &'w [u16],
+    pub ends: &'w [u16],
+    pub firsts: &'w [u16],
+    pub heights: &'w [u16],
 }
 
-impl<'a> Lettering<'a> {
+impl<'a, 'w> Lettering<'a, 'w> {
     // Line i of cell k, or none where the cell has fewer.
     pub fn line(self, k: usize, i: usize) -> &'a [u8]
         requires { (bs : List Box) × LettersOf self bs × (k < length bs) × (i ≤ 128) }

@@ -6,7 +6,7 @@ ghost use Rattle.text.specs.Utf8.{char_indices, well_formed};
 ghost use Rattle.drawing.specs.Plain.{Canvas, canvas_height, inner_line, drawn_line};
 ghost use Rattle.writer.specs.Writing.{Wrote};
 ghost use Rattle.cm.specs.Board.{no_box, Boxed, Inner};
-ghost use Rattle.cm.specs.Bears.{board_of, Bears, Ready};
+ghost use Rattle.cm.specs.Bears.{board_of, Bears};
 
 use crate::board::Board;
 use crate::columns::columns;
@@ -38,7 +38,7 @@ fn write_inner(
 
 // The inner line y of cell k.
 fn write_cell(board: &Board<'_>, y: usize, k: usize, out: &mut [u8], at: ByteAt) -> ByteAt
-    requires ready { Ready board.now }
+    requires boxed { (v : Canvas) × Boxed v board.now.cells (board_of board.now) }
     requires inner { Inner board.now.cells board.now.rects.now y k }
     requires early { at.0 ≤ 2147483648 }
     ensures wrote { (v : Canvas) → Boxed v board.now.cells (board_of board.now)
@@ -51,9 +51,8 @@ fn write_cell(board: &Board<'_>, y: usize, k: usize, out: &mut [u8], at: ByteAt)
 }
 
 // Line y of the drawing: each border's byte, and at a cell's first inner column its whole inner line.
-pub(crate) fn write_line(board: &Board<'_>, y: usize, out: &mut [u8], at: ByteAt) -> ByteAt
-    requires ready { Ready board.now }
-    requires low { y < board.now.height }
+pub fn write_line(board: &Board<'_>, y: usize, out: &mut [u8], at: ByteAt) -> ByteAt
+    requires ready { (v : Canvas) × Bears board.now v × (y < canvas_height v) }
     requires early { at.0 ≤ 1073741824 }
     ensures wrote { (v : Canvas) → Bears board.now v → y < canvas_height v
         → Wrote out.old at.0 (drawn_line board.now.origin.0 v y).text out.new result.0 }

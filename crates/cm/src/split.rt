@@ -11,7 +11,7 @@ ghost use Rattle.drawing.specs.Redraw.{splits as splits_in, split_cell};
 ghost use Rattle.representation.specs.Arrays.{rect_in};
 ghost use Rattle.representation.specs.Lent.{rect_of};
 ghost use Rattle.cm.specs.Board.{lines_at};
-ghost use Rattle.cm.specs.Bears.{LettersOf, Bears, Ready};
+ghost use Rattle.cm.specs.Bears.{LettersOf, Bears};
 ghost use Rattle.cm.specs.Hits.{Hit, Hittable, HitLines, split_column};
 
 use crate::board::Board;
@@ -65,7 +65,13 @@ fn hit_line(line: &[u8], column: Column, from: Column, i: u8, hits: Hits) -> Hit
 }
 
 // The first `count` lines of cell k, whose text starts at column `from` of the canvas.
-fn hit_lines(column: Column, from: Column, count: usize, lettering: Lettering<'_>, k: usize) -> Hits
+fn hit_lines(
+    column: Column,
+    from: Column,
+    count: usize,
+    lettering: Lettering<'_, '_>,
+    k: usize,
+) -> Hits
     requires near { (column.0 ≤ 1024) × (count < 128) }
     requires lettered { (bs : List Box) × LettersOf lettering bs × (k < length bs) × Hittable column.0 from.0 (lines_at bs k) }
     ensures { (bs : List Box) → LettersOf lettering.entry bs → k < length bs → HitLines column.0 (lines_at bs k) from.0 count result.lines }
@@ -96,7 +102,7 @@ fn split_column(canvas: &[u16], rect: Rect, lines: usize, hits: Hits) -> bool
 
 // Would cell k be read as two? Its lines are looked at only where a `+` above and one below meet.
 fn splits(board: &Board<'_>, k: usize) -> bool
-    requires ready { Ready board.now }
+    requires ready { (v : Canvas) × Bears board.now v }
     requires cell { k < board.now.cells }
     ensures { (v : Canvas) → Bears board.now v
         → result ≡ splits_in (grid_of (canvas_lines board.now.origin.0 v)) (rect_in board.now.rects.now k) }
@@ -118,8 +124,8 @@ fn splits(board: &Board<'_>, k: usize) -> bool
 }
 
 // The first cell that would be read as two.
-pub(crate) fn first_split(board: &Board<'_>) -> Option<usize>
-    requires { Ready board.now }
+pub fn first_split(board: &Board<'_>) -> Option<usize>
+    requires { (v : Canvas) × Bears board.now v }
     ensures { (v : Canvas) → Bears board.now v → place_of result ≡ split_cell v (grid_of (canvas_lines board.now.origin.0 v)) }
 {
     for k in 0..board.cells {

@@ -2,7 +2,7 @@
 // a result to standard output, and a line on standard error where one of them fails.
 #![tactic(auto)]
 
-ghost use Rattle.std.specs.Prelude.{◌≤◌, IfOk, length};
+ghost use Rattle.std.specs.Prelude.{◌≡◌, ◌<◌, ◌≤◌, IfOk, length};
 
 use std::env::{Env, FillError};
 use std::io;
@@ -51,14 +51,15 @@ pub fn say_usage(rt: &HostRuntime, name: &[u8], option: &[u8]) {
 }
 
 // Prints the answer of the program of this name to the sheet on standard input: the bytes that `write` puts at the start of
-// the array that it is given, and counts.
-pub fn answer_sheet<F: FnOnce(&[u8], &mut [u8; 196608]) -> usize>(
+// the array of N bytes that it is given, and counts. No array has 2^63 bytes.
+pub fn answer_sheet<const N: usize, F: FnOnce(&[u8], &mut [u8]) -> usize>(
     rt: &HostRuntime,
     name: &[u8],
     write: F,
 )
-    requires callable { F.IsAlwaysCallable write }
-    requires count { (sheet out n rest : _) → F.post write sheet out n rest → n ≤ 196608 }
+    requires size { N < 9223372036854775808 }
+    requires callable { (sheet out : _) → length out.now ≡ N → F.pre write sheet out }
+    requires count { (sheet out n rest : _) → length out.now ≡ N → F.post write sheet out n rest → n ≤ N }
 {
     // One byte more than the longest drawing, 32,768 bytes of text and 128 line feeds: as many
     // pass a limit, whatever follows.
@@ -66,7 +67,7 @@ pub fn answer_sheet<F: FnOnce(&[u8], &mut [u8; 196608]) -> usize>(
     let Ok(n) = read_input(&mut rt.stdin(), &mut sheet) else {
         return say(rt, b"", name, b": input cannot be read\n");
     };
-    let mut out = [0u8; 196608];
+    let mut out = [0u8; N];
     let end = write(&sheet[..n], &mut out);
     if rt.stdout().write_all(&out[..end]).is_err() {
         say(rt, b"", name, b": output cannot be written\n");
@@ -74,19 +75,20 @@ pub fn answer_sheet<F: FnOnce(&[u8], &mut [u8; 196608]) -> usize>(
 }
 
 // The same of a program without arguments.
-pub fn answer_only<F: FnOnce(&[u8], &mut [u8; 196608]) -> usize>(
+pub fn answer_only<const N: usize, F: FnOnce(&[u8], &mut [u8]) -> usize>(
     rt: &HostRuntime,
     name: &[u8],
     write: F,
 )
-    requires callable { F.IsAlwaysCallable write }
-    requires count { (sheet out n rest : _) → F.post write sheet out n rest → n ≤ 196608 }
+    requires size { N < 9223372036854775808 }
+    requires callable { (sheet out : _) → length out.now ≡ N → F.pre write sheet out }
+    requires count { (sheet out n rest : _) → length out.now ≡ N → F.post write sheet out n rest → n ≤ N }
 {
     // Whoever names a file must not be left waiting for standard input.
     if has_argument(rt, 1) {
         return say(rt, b"usage: ", name, b" < SHEET\n");
     }
-    answer_sheet(rt, name, write);
+    answer_sheet::<N, F>(rt, name, write);
 }
 
 // A line about the program of this name. Where standard error takes none, nobody is left to be told.

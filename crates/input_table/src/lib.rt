@@ -1,7 +1,7 @@
 // The table of an input's lines, from the table call.
 #![tactic(auto)]
 
-ghost use Rattle.std.specs.Prelude.{◌≤◌, ◌≡◌, length};
+ghost use Rattle.std.specs.Prelude.{◌≤◌, ◌≡◌, length, replicate};
 ghost use Rattle.seq.specs.Lists.{sum};
 ghost use Rattle.drawing.specs.RedrawCall.{table_lent};
 ghost use Rattle.representation.specs.Lent.{sizes_of as sizes_lent, arrays_of};
@@ -23,7 +23,13 @@ pub struct TableBuffers {
 }
 
 impl TableBuffers {
-    pub fn new() -> Self {
+    pub fn new() -> Self
+        ensures columns { result.columns ≡ replicate 254 0 }
+        ensures sections { result.sections ≡ replicate 127 0 }
+        ensures cells { result.cells ≡ replicate 5120 0 }
+        ensures lengths { result.lengths ≡ replicate 16384 0 }
+        ensures text { result.text ≡ replicate 32768 0 }
+    {
         TableBuffers {
             columns: [0; 254],
             sections: [0; 127],

@@ -1,5 +1,5 @@
 -- What the last part of the layout call asks of its callees, from what filling and tracing left.
-use Prim.Native.Nat.{ℕ, ◌*◌, ◌-◌, ◌≤◌, ◌<◌}
+use Prim.Native.Nat.{ℕ, ◌*◌, ◌-◌, ◌≤◌}
 use mathlib.Core.Path.{◌≡◌, refl, sym, ap, ◌∙◌}
 use mathlib.Core.Bool.{true, false}
 use mathlib.Core.List.{List, [], ◌∷◌, flat_map}
@@ -18,16 +18,14 @@ use Rattle.grid.specs.Flat.{split_text}
 use Rattle.grid.specs.LayoutCall.{LayoutArrays}
 use Rattle.representation.specs.LayoutParts.{finish_sizes, finish_arrays}
 use Rattle.representation.proofs.RectsLaws.{length-rects}
-use Rattle.representation.proofs.HeldLaws.{rect-holds}
-use Rattle.representation.specs.Arrays.{rect_in}
 use Rattle.representation.specs.Edges.{row_lines_below, column_lines_below}
-use Rattle.representation.specs.LayoutEntries.{lines_held, column_entries, row_entries, cell_entries, range_entries, all_ranges, Inside}
+use Rattle.representation.specs.LayoutEntries.{lines_held, numbering_of, column_entries, row_entries, cell_entries, range_entries, all_ranges}
 use Rattle.representation.specs.declared.Parts.{Parts}
 use Rattle.representation.proofs.TracedLaws.{rows-some, small_bytes}
 use Rattle.reading.specs.Call.{SheetArrays, lines_in, rects_in, TracedSheet}
 use Rattle.reading.specs.declared.Reading.{Reading}
 use Rattle.reading.proofs.CheckedLaws.{trimmed-text}
-use Rattle.reading.proofs.SheetLaws.{traced-accepted, traced-holds, traced_lines, traced-height, traced-width, traced-rule, traced-short, traced-inside, traced-laid}
+use Rattle.reading.proofs.SheetLaws.{traced-accepted, traced-holds, traced_lines, traced-height, traced-width, traced-rule, traced-short, traced-laid}
 use Rattle.layout.specs.Sized.{rects_short, SizesTold}
 use Rattle.layout.specs.Written.{LayoutWritable}
 use Rattle.layout.specs.declared.sizes.Measured.{Measured}
@@ -89,10 +87,11 @@ module _ {a : SheetArrays} {o : Reading} (t : TracedSheet a o) where
           let f2 = or-neither _ _ f1.0 in
           (ltb-false _ _ f2.0, ltb-false _ _ f2.1, ltb-false _ _ f1.1, ltb-false _ _ f0.1)
 
-      pub finish-writable : LayoutWritable (rects_in a o.cells) o.cells a.offsets m.tops m.lefts out
+      pub finish-writable : LayoutWritable (rects_in a o.cells) o.cells a.offsets (numbering_of m.tops) m.lefts out
       finish-writable =
           record {
             offset_room = t.roomy.offset_room;
+            few_tops = m.tops.few;
             numbered = rects-found-numbered t z.down z.across;
             small_bytes = small_bytes _ _ _ _ (traced-accepted a o t) (traced-holds a o t) (traced-short a o t);
             columns_fit = rw z.columns_told at sized-room.0;

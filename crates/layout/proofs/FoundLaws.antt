@@ -10,7 +10,7 @@ use Rattle.grid.specs.Slots.{grid_of}
 use Rattle.grid.specs.Layout.{first_of, last_but_one, head_end, foot_start, column_lines, row_lines}
 use Rattle.slots.specs.Filling.{separator_lines}
 use Rattle.representation.specs.Edges.{Collected, row_lines_below, column_lines_below}
-use Rattle.representation.specs.LayoutEntries.{lines_held, Numbered}
+use Rattle.representation.specs.LayoutEntries.{lines_held, numbering_of, Numbered}
 use Rattle.representation.specs.declared.Bounds.{Bounds}
 use Rattle.representation.specs.declared.Parts.{Parts}
 use Rattle.representation.proofs.TracedLaws.{tops-held, lefts-held, grid_answer-numbered}
@@ -64,5 +64,5 @@ module _ {a : SheetArrays} {o : Reading} (t : TracedSheet a o) where
     unfolding column_lines
     lefts-found-count = ap (λ n. n - 1) across.counted
 
-    pub rects-found-numbered : (r : Rect) → Memᴰ r (rects_in a o.cells) → Numbered tops lefts r
+    pub rects-found-numbered : (r : Rect) → Memᴰ r (rects_in a o.cells) → Numbered (numbering_of tops) (numbering_of lefts) r
     rects-found-numbered = grid_answer-numbered _ _ _ _ (traced-accepted a o t) (traced-holds a o t) low narrow _ _ down across

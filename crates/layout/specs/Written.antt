@@ -4,14 +4,16 @@ use mathlib.Core.List.{List, Memᴰ}
 use Rattle.grid.specs.Values.{Rect}
 use Rattle.grid.specs.LayoutCall.{LayoutArrays, slot_space}
 use Rattle.representation.specs.Arrays.{code_at, rect_in}
-use Rattle.representation.specs.LayoutEntries.{all_ranges, Numbered}
+use Rattle.representation.specs.LayoutEntries.{numbering_of, all_ranges, Numbered}
 use Rattle.representation.specs.declared.Bounds.{Bounds}
+use Rattle.representation.specs.declared.Numbering.{Numbering}
 use Rattle.representation.specs.declared.rects.Rects.{Rects}
 
 -- n rectangles with the lines at their edges, the slots they lie on, and room in the four arrays
-pub record LayoutWritable (rs : List Rect) (n : ℕ) (offsets : List ℕ) (tops lefts : Bounds) (out : LayoutArrays) : Type 0 where
+pub record LayoutWritable (rs : List Rect) (n : ℕ) (offsets : List ℕ) (tops : Numbering) (lefts : Bounds) (out : LayoutArrays) : Type 0 where
   pub offset_room : slot_space ≤ length offsets
-  pub numbered : (r : Rect) → Memᴰ r rs → Numbered tops lefts r
+  pub few_tops : tops.count ≤ 128
+  pub numbered : (r : Rect) → Memᴰ r rs → Numbered tops (numbering_of lefts) r
   pub small_bytes : (r : Rect) → Memᴰ r rs → (y : ℕ) → r.top < y → y < r.bottom → code_at offsets y r.left < 512
   pub columns_fit : 2 * (lefts.count - 1) ≤ length out.columns
   pub rows_fit : 3 * (tops.count - 1) ≤ length out.rows

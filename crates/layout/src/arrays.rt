@@ -1,7 +1,7 @@
 // The four arrays of a layout, written from what tracing left.
 ghost use Rattle.std.specs.Prelude.{◌≡◌};
 ghost use Rattle.grid.specs.Answer.{over};
-ghost use Rattle.representation.specs.LayoutEntries.{lines_held, row_entries, cell_entries, all_ranges};
+ghost use Rattle.representation.specs.LayoutEntries.{lines_held, lines_numbered, row_entries, cell_entries, all_ranges};
 ghost use Rattle.representation.specs.Traced.{rects_held};
 ghost use Rattle.layout.specs.Call.{layout_lent};
 ghost use Rattle.layout.specs.Columns.{columns_of};
@@ -13,12 +13,12 @@ use crate::column_entries::write_columns;
 use crate::range_entries::write_ranges;
 use crate::row_entries::write_rows;
 use representation::rects::Rects;
-use representation::{Bounds, Parts};
+use representation::{Bounds, Numbering, Parts};
 
 // Writes the four arrays.
-pub(crate) fn write_layout(
+pub fn write_layout(
     rects: Rects,
-    tops: Bounds,
+    tops: Numbering,
     lefts: Bounds,
     parts: Parts,
     line: AlignmentLine<'_>,
@@ -31,12 +31,12 @@ pub(crate) fn write_layout(
     requires { let out = layout_lent cols.old rows.old cells.old ranges.old in
         LayoutWritable (rects_held rects) rects.count offsets.now tops lefts out }
     ensures columns { cols.new ≡ over (columns_of line.entry (lines_held lefts)) cols.old }
-    ensures rows { rows.new ≡ over (row_entries parts (lines_held tops)) rows.old }
-    ensures cells { cells.new ≡ over (cell_entries (lines_held tops) (lines_held lefts) (rects_held rects.entry)) cells.old }
+    ensures rows { rows.new ≡ over (row_entries parts (lines_numbered tops)) rows.old }
+    ensures cells { cells.new ≡ over (cell_entries (lines_numbered tops) (lines_held lefts) (rects_held rects.entry)) cells.old }
     ensures ranges { ranges.new ≡ over (all_ranges offsets.now (rects_held rects.entry)) ranges.old }
 {
     write_columns(lefts, line, cols);
     write_rows(tops, parts, rows);
-    write_cells(rects, tops, lefts, cells);
+    write_cells(rects, tops, lefts.numbering(), cells);
     write_ranges(rects, offsets, ranges);
 }

@@ -88,11 +88,11 @@ fn finish(
         glyphs: traced.glyphs,
         offsets: traced.offsets,
         line: parts.head,
-        text: trimmed_line(drawing, parts.head),
+        text: trimmed_line(drawing.lengths, drawing.text, parts.head),
     };
     write_layout(
         rects,
-        measured.tops,
+        measured.tops.numbering(),
         measured.lefts,
         parts,
         line,

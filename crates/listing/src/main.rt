@@ -2,7 +2,7 @@
 #![tactic(auto)]
 
 fn main(rt: HostRuntime) {
-    input::answer_only(
+    input::answer_only::<131072, _>(
         &rt,
         b"listing",
         |sheet, out| layout_listing::list(sheet, out),

@@ -4,7 +4,7 @@
 
 fn main(rt: HostRuntime) {
     match input::read_choice(&rt, b"--widths") {
-        Some(widths) => input::answer_sheet(&rt, b"page", |sheet, out| {
+        Some(widths) => input::answer_sheet::<196608, _>(&rt, b"page", |sheet, out| {
             page_listing::print_page(widths, sheet, out)
         }),
         None => input::say_usage(&rt, b"page", b"--widths"),

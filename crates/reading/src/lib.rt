@@ -61,13 +61,13 @@ fn line_start(lengths: &[u16], y: usize) -> usize
 }
 
 // Line y, trimmed: a part of the text.
-pub fn trimmed_line<'a>(drawing: Drawing<'a>, y: usize) -> &'a [u8]
-    requires { (sum drawing.lengths.now ≡ length drawing.text.now) × (y < length drawing.lengths.now) }
-    ensures { result.now ≡ trim_end (get_or (split_text drawing.entry.lengths.now drawing.entry.text.now) y no_text) }
+pub fn trimmed_line<'a>(lengths: &[u16], text: &'a [u8], y: usize) -> &'a [u8]
+    requires { (sum lengths.now ≡ length text.now) × (y < length lengths.now) }
+    ensures { result.now ≡ trim_end (get_or (split_text lengths.now text.now) y no_text) }
 {
-    let at = line_start(drawing.lengths, y);
-    let end = at + drawing.lengths[y] as usize;
-    trim_end(&drawing.text[at..end])
+    let at = line_start(lengths, y);
+    let end = at + lengths[y] as usize;
+    trim_end(&text[at..end])
 }
 
 // The width, after the checks up to it. Each line's slots, or what else is known of it, are left in the working
@@ -97,7 +97,7 @@ fn checked(
     if let Some(line) = scan_lines(drawing, glyphs, offsets, counts) {
         return Err(Refusal::OutsideSet { line });
     }
-    let top = trimmed_line(drawing, 0);
+    let top = trimmed_line(drawing.lengths, drawing.text, 0);
     if !is_rule(top, b'-') {
         return Err(Refusal::NoRule);
     }

@@ -2,7 +2,7 @@
 #![tactic(auto)]
 
 fn main(rt: HostRuntime) {
-    input::answer_only(
+    input::answer_only::<131072, _>(
         &rt,
         b"redraw",
         |sheet, out| redraw_listing::print_redrawing(sheet, out),

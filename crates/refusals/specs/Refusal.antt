@@ -1,5 +1,7 @@
 -- Document 01, "What a call gives back": the table of refusals, and the answer of a call that gives a value or a refusal.
-use Rattle.std.specs.Prelude.{ℕ, Result, Ok, Err}
+use Rattle.std.specs.Prelude.{ℕ, Result, Ok, Err, codes}
+use Rattle.std.specs.Fmt.{decimal}
+use mathlib.Core.List.{List, ◌++◌}
 use Rattle.grid.specs.Answer.{Answer, accept, refuse}
 use Rattle.refusals.specs.declared.Refusal.{Refusal}
 use Rattle.refusals.specs.declared.Refusal.TheVariants.{Empty, TooLarge, OutsideSet, NoRule, WrongWidth, NoCover, TooManyCells}
@@ -38,6 +40,10 @@ place_of (WouldSplit cell) = cell
 place_of OutputShort = 0
 place_of Contradiction = 0
 place_of RegisterFull = 0
+
+-- "A refusal prints `refused`, number, place.", without the line feed
+abbrev pub refusal_text : Refusal → List ℕ
+refusal_text e = codes "refused " ++ decimal (number_of e) ++ codes " " ++ decimal (place_of e)
 
 module _ {A B : Type 0} where
   -- the answer of a call that gives a value or a refusal, where the value is read as a value of the definitions

@@ -1,3 +1,4 @@
+pub mod Refused
 pub mod LayoutReply
 pub mod CutReply
 pub mod TableReply

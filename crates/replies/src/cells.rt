@@ -1,9 +1,9 @@
 // The cell call's answer as a struct.
 ghost use Rattle.std.specs.Prelude.{◌≡◌};
-ghost use Rattle.cell.specs.Answer.{cell_answer_of};
+ghost use Rattle.replies.specs.Refused.{answer_told};
 ghost use Rattle.replies.specs.CellReply.{cell_reply_of};
 
-use refusals::Refusal;
+use crate::refused::Numbered;
 
 // Number 0 is acceptance; then how many cut lines were written. A refusal has its number and place,
 // and 0 for the lines.
@@ -15,8 +15,8 @@ pub struct CellReply {
     pub lines: usize,
 }
 
-pub fn cell_reply(answer: Result<usize, Refusal>) -> CellReply
-    ensures { result ≡ cell_reply_of (cell_answer_of answer) }
+pub fn cell_reply<R: Numbered>(answer: Result<usize, R>) -> CellReply
+    ensures { result ≡ cell_reply_of (answer_told R.number R.place (λ lines. lines) answer) }
 {
     match answer {
         Ok(lines) => CellReply {

@@ -1,10 +1,11 @@
 // The cutting call's answer as a struct.
 ghost use Rattle.std.specs.Prelude.{◌≡◌};
-ghost use Rattle.fragments.specs.Call.{answer_of};
+ghost use Rattle.fragments.specs.Call.{numbers_of};
+ghost use Rattle.replies.specs.Refused.{answer_told};
 ghost use Rattle.replies.specs.CutReply.{cut_reply_of};
 
+use crate::refused::Numbered;
 use fragments::Cut;
-use refusals::Refusal;
 
 // Number 0 is acceptance; then the cut text is the part of the line from `start` to `end`, with its
 // line, byte and column. A refusal has its number and place, and 0 for the rest.
@@ -20,8 +21,8 @@ pub struct CutReply {
     pub column: usize,
 }
 
-pub fn cut_reply(answer: Result<Cut, Refusal>) -> CutReply
-    ensures { result ≡ cut_reply_of (answer_of answer) }
+pub fn cut_reply<R: Numbered>(answer: Result<Cut, R>) -> CutReply
+    ensures { result ≡ cut_reply_of (answer_told R.number R.place numbers_of answer) }
 {
     match answer {
         Ok(cut) => CutReply {

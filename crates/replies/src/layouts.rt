@@ -1,10 +1,11 @@
 // The layout call's answer as a struct.
 ghost use Rattle.std.specs.Prelude.{◌≡◌};
-ghost use Rattle.layout.specs.Call.{layout_answer_of};
+ghost use Rattle.layout.specs.Call.{sizes_of};
+ghost use Rattle.replies.specs.Refused.{answer_told};
 ghost use Rattle.replies.specs.LayoutReply.{layout_reply_of};
 
+use crate::refused::Numbered;
 use layout::LayoutSizes;
-use refusals::Refusal;
 
 // Number 0 is acceptance; then the values are those of the call. A refusal has its number and
 // place, and 0 for the rest.
@@ -20,8 +21,8 @@ pub struct LayoutReply {
     pub ranges: usize,
 }
 
-pub fn layout_reply(answer: Result<LayoutSizes, Refusal>) -> LayoutReply
-    ensures { result ≡ layout_reply_of (layout_answer_of answer) }
+pub fn layout_reply<R: Numbered>(answer: Result<LayoutSizes, R>) -> LayoutReply
+    ensures { result ≡ layout_reply_of (answer_told R.number R.place sizes_of answer) }
 {
     match answer {
         Ok(sizes) => LayoutReply {

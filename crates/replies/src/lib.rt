@@ -7,6 +7,7 @@ pub mod fragment;
 pub mod layouts;
 pub mod pages;
 pub mod redraws;
+pub mod refused;
 pub mod registers;
 pub mod room;
 pub mod sheets;

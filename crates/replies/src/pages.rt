@@ -1,10 +1,10 @@
 // The page call's answer and a share as structs.
 ghost use Rattle.std.specs.Prelude.{◌≡◌};
-ghost use Rattle.html_page.specs.Call.{answer_of};
+ghost use Rattle.replies.specs.Refused.{answer_told};
 ghost use Rattle.replies.specs.PageReply.{page_reply_of, share_reply_of};
 
+use crate::refused::Numbered;
 use html::Share;
-use refusals::Refusal;
 
 // Number 0 is acceptance; then how many bytes the page has. A refusal has its number and place, and 0
 // for the bytes.
@@ -16,8 +16,8 @@ pub struct PageReply {
     pub bytes: usize,
 }
 
-pub fn page_reply(answer: Result<usize, Refusal>) -> PageReply
-    ensures { result ≡ page_reply_of (answer_of answer) }
+pub fn page_reply<R: Numbered>(answer: Result<usize, R>) -> PageReply
+    ensures { result ≡ page_reply_of (answer_told R.number R.place (λ bytes. bytes) answer) }
 {
     match answer {
         Ok(bytes) => PageReply {

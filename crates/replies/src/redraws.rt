@@ -1,10 +1,11 @@
 // The redraw call's answer as a struct.
 ghost use Rattle.std.specs.Prelude.{◌≡◌};
-ghost use Rattle.cm.specs.Late.{answer_of};
+ghost use Rattle.cm.specs.Late.{written_sizes};
+ghost use Rattle.replies.specs.Refused.{answer_told};
 ghost use Rattle.replies.specs.RedrawReply.{redraw_reply_of};
 
+use crate::refused::Numbered;
 use cm::draw::DrawingSizes;
-use refusals::Refusal;
 
 // Number 0 is acceptance; then how many lines and bytes were written. A refusal has its number and
 // place, and 0 for the rest.
@@ -17,8 +18,8 @@ pub struct RedrawReply {
     pub bytes: usize,
 }
 
-pub fn redraw_reply(answer: Result<DrawingSizes, Refusal>) -> RedrawReply
-    ensures { result ≡ redraw_reply_of (answer_of answer) }
+pub fn redraw_reply<R: Numbered>(answer: Result<DrawingSizes, R>) -> RedrawReply
+    ensures { result ≡ redraw_reply_of (answer_told R.number R.place written_sizes answer) }
 {
     match answer {
         Ok(DrawingSizes { lines, bytes }) => RedrawReply {

@@ -1,9 +1,10 @@
 // The answers of the register calls as structs.
 ghost use Rattle.std.specs.Prelude.{◌≡◌};
-ghost use Rattle.line_ends.specs.Call.{add_answer_of, find_answer_of, remap_answer_of};
+ghost use Rattle.line_ends.specs.Search.{option_of};
+ghost use Rattle.replies.specs.Refused.{answer_told};
 ghost use Rattle.replies.specs.LineEndReply.{add_reply_of, find_reply_of, remap_reply_of};
 
-use refusals::Refusal;
+use crate::refused::Numbered;
 use sourcepos::CellLineEnd;
 
 // Number 0 is acceptance; then how many ends the register holds. A refusal has its number and place,
@@ -16,8 +17,8 @@ pub struct AddReply {
     pub count: usize,
 }
 
-pub fn add_reply(answer: Result<usize, Refusal>) -> AddReply
-    ensures { result ≡ add_reply_of (add_answer_of answer) }
+pub fn add_reply<R: Numbered>(answer: Result<usize, R>) -> AddReply
+    ensures { result ≡ add_reply_of (answer_told R.number R.place (λ count. count) answer) }
 {
     match answer {
         Ok(count) => AddReply {
@@ -44,8 +45,8 @@ pub struct FindReply {
     pub eol: u32,
 }
 
-pub fn find_reply(answer: Result<Option<u32>, Refusal>) -> FindReply
-    ensures { result ≡ find_reply_of (find_answer_of answer) }
+pub fn find_reply<R: Numbered>(answer: Result<Option<u32>, R>) -> FindReply
+    ensures { result ≡ find_reply_of (answer_told R.number R.place option_of answer) }
 {
     match answer {
         Ok(Some(eol)) => FindReply {
@@ -81,8 +82,8 @@ pub struct RemapReply {
     pub eol: u32,
 }
 
-pub fn remap_reply(answer: Result<CellLineEnd, Refusal>) -> RemapReply
-    ensures { result ≡ remap_reply_of (remap_answer_of answer) }
+pub fn remap_reply<R: Numbered>(answer: Result<CellLineEnd, R>) -> RemapReply
+    ensures { result ≡ remap_reply_of (answer_told R.number R.place (λ end. end) answer) }
 {
     match answer {
         Ok(end) => RemapReply {

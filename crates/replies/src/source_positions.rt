@@ -1,12 +1,14 @@
 // The answers of the positions calls as structs.
 ghost use Rattle.std.specs.Prelude.{◌≡◌};
-ghost use Rattle.positions.specs.Answer.{positions_of, cell_position_of};
+ghost use Rattle.positions.specs.Answer.{positions_found};
+ghost use Rattle.positions.specs.Spans.{sourcepos_of};
+ghost use Rattle.replies.specs.Refused.{answer_told};
 ghost use Rattle.replies.specs.PositionsReply.{positions_reply_of};
 ghost use Rattle.replies.specs.CellPositionReply.{cell_position_reply_of};
 
+use crate::refused::Numbered;
 use positions::PositionsFound;
 use positions::span::Sourcepos;
-use refusals::Refusal;
 
 // Number 0 is acceptance; then the table's position, and how many rows and cells were written. A
 // refusal has its number and place, and 0 for the rest.
@@ -23,8 +25,8 @@ pub struct PositionsReply {
     pub cells: usize,
 }
 
-pub fn positions_reply(answer: Result<PositionsFound, Refusal>) -> PositionsReply
-    ensures { result ≡ positions_reply_of (positions_of answer) }
+pub fn positions_reply<R: Numbered>(answer: Result<PositionsFound, R>) -> PositionsReply
+    ensures { result ≡ positions_reply_of (answer_told R.number R.place positions_found answer) }
 {
     match answer {
         Ok(found) => PositionsReply {
@@ -63,8 +65,8 @@ pub struct CellPositionReply {
     pub end_column: u32,
 }
 
-pub fn cell_position_reply(answer: Result<Sourcepos, Refusal>) -> CellPositionReply
-    ensures { result ≡ cell_position_reply_of (cell_position_of answer) }
+pub fn cell_position_reply<R: Numbered>(answer: Result<Sourcepos, R>) -> CellPositionReply
+    ensures { result ≡ cell_position_reply_of (answer_told R.number R.place sourcepos_of answer) }
 {
     match answer {
         Ok(position) => CellPositionReply {

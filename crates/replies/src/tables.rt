@@ -1,9 +1,10 @@
 // The table call's answer as a struct.
 ghost use Rattle.std.specs.Prelude.{◌≡◌};
-ghost use Rattle.table.specs.Call.{answer_of};
+ghost use Rattle.table.specs.Call.{sizes_of};
+ghost use Rattle.replies.specs.Refused.{answer_told};
 ghost use Rattle.replies.specs.TableReply.{table_reply_of};
 
-use refusals::Refusal;
+use crate::refused::Numbered;
 use table::TableSizes;
 
 // Number 0 is acceptance; then how many columns, rows, cells, lines and bytes were written. A refusal
@@ -20,8 +21,8 @@ pub struct TableReply {
     pub bytes: usize,
 }
 
-pub fn table_reply(answer: Result<TableSizes, Refusal>) -> TableReply
-    ensures { result ≡ table_reply_of (answer_of answer) }
+pub fn table_reply<R: Numbered>(answer: Result<TableSizes, R>) -> TableReply
+    ensures { result ≡ table_reply_of (answer_told R.number R.place sizes_of answer) }
 {
     match answer {
         Ok(sizes) => TableReply {

@@ -16,23 +16,34 @@ use Rattle.grid.specs.Layout.{Between, between, index_of}
 use Rattle.grid.proofs.LayoutLaws.{length-between, between-at}
 use Rattle.representation.proofs.RectsLaws.{length-rects, get_or-rects}
 use Rattle.representation.specs.declared.Bounds.{Bounds}
-use Rattle.representation.specs.LayoutEntries.{lines_held}
+use Rattle.representation.specs.declared.Numbering.{Numbering}
+use Rattle.representation.specs.LayoutEntries.{lines_held, lines_numbered, numbering_of}
 
 -- ---- the lines that an array holds, two neighbours a turn
 pub no_between : Between
 no_between = record { from = 0; to = 0 }
 
+module _ (n : Numbering) (room : length n.lines ≡ 128) (few : n.count ≤ 128) where
+  length-numbered : length (lines_numbered n) ≡ n.count
+  length-numbered = length-take-le n.count n.lines (omega (arith, room, few))
+
+  pub numbered-bands : length (between (lines_numbered n)) ≡ n.count - 1
+  numbered-bands = length-between (lines_numbered n) ∙ rw length-numbered
+
+  pub numbered-band-at : (k : ℕ) → k + 1 < n.count → get_or (between (lines_numbered n)) k no_between ≡ record { from = get_or n.lines k 0; to = get_or n.lines (k + 1) 0 }
+  numbered-band-at k h =
+      between-at (lines_numbered n) k no_between (omega (arith, length-numbered))
+      ∙ rw (get_or-take n.count n.lines k 0 (omega arith), get_or-take n.count n.lines (k + 1) 0 h)
+
 module _ (b : Bounds) where
   pub length-held : length (lines_held b) ≡ b.count
-  length-held = length-take-le b.count b.lines (omega (arith, b.room, b.few))
+  length-held = length-numbered (numbering_of b) b.room b.few
 
   pub length-bands : length (between (lines_held b)) ≡ b.count - 1
-  length-bands = length-between (lines_held b) ∙ rw length-held
+  length-bands = numbered-bands (numbering_of b) b.room b.few
 
   pub band-at : (k : ℕ) → k + 1 < b.count → get_or (between (lines_held b)) k no_between ≡ record { from = get_or b.lines k 0; to = get_or b.lines (k + 1) 0 }
-  band-at k h =
-      between-at (lines_held b) k no_between (omega (arith, length-held))
-      ∙ rw (get_or-take b.count b.lines k 0 (omega arith), get_or-take b.count b.lines (k + 1) 0 h)
+  band-at = numbered-band-at (numbering_of b) b.room b.few
 
 -- ---- rectangles
 pub no_rect : Rect

@@ -23,7 +23,7 @@ use Rattle.representation.proofs.LayoutPartsLaws.{grid-accepted}
 use Rattle.grid.proofs.SeparatorLaws.{row-filled}
 use Rattle.grid.proofs.SlotLaws.{rows-length}
 use Rattle.representation.specs.Edges.{Collected, row_lines_below, column_lines_below}
-use Rattle.representation.specs.LayoutEntries.{lines_held, Inside, Numbered}
+use Rattle.representation.specs.LayoutEntries.{lines_held, numbering_of, Inside, Numbered}
 use Rattle.representation.specs.declared.Bounds.{Bounds}
 use Rattle.representation.proofs.AgreeLaws.{Laid}
 
@@ -105,7 +105,7 @@ module _ (lines : List Line) (rs : List Rect) (glyphs offsets : List ℕ) (e : g
     unfolding column_lines
     lefts-held = d.listed
 
-    pub grid_answer-numbered : (r : Rect) → Memᴰ r rs → Numbered tops lefts r
+    pub grid_answer-numbered : (r : Rect) → Memᴰ r rs → Numbered (numbering_of tops) (numbering_of lefts) r
     grid_answer-numbered r m =
         let i = grid_answer-inside r m in
         record {

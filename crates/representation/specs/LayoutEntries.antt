@@ -8,11 +8,19 @@ use Rattle.grid.specs.Layout.{Between, between, index_of, inner_lines, segment_a
 use Rattle.grid.specs.Flat.{alignment_code}
 use Rattle.representation.specs.Arrays.{code_glyph, code_at}
 use Rattle.representation.specs.declared.Bounds.{Bounds}
+use Rattle.representation.specs.declared.Numbering.{Numbering}
 use Rattle.representation.specs.declared.Parts.{Parts}
 
 -- the lines that an array holds, in rising order
 abbrev pub lines_held : Bounds → List ℕ
 lines_held l = take l.count l.lines
+
+-- the same of lines of which nothing is known; bounds without their facts
+abbrev pub lines_numbered : Numbering → List ℕ
+lines_numbered n = take n.count n.lines
+
+abbrev pub numbering_of : Bounds → Numbering
+numbering_of b = record { lines = b.lines; index = b.index; count = b.count }
 
 -- the alignment of the column that starts at x, from the trimmed alignment line a
 abbrev pub alignment_from : List ℕ → List ℕ → List ℕ → ℕ → ℕ → ℕ
@@ -53,9 +61,9 @@ pub record Inside (height width : ℕ) (r : Rect) : Type 0 where
   pub wide : r.right < width
 
 -- the index tables have the number of each edge
-pub record Numbered (rows columns : Bounds) (r : Rect) : Type 0 where
+pub record Numbered (rows columns : Numbering) (r : Rect) : Type 0 where
   pub inside : Inside 128 128 r
-  pub top_number : get_or rows.index r.top 0 ≡ index_of (lines_held rows) r.top
-  pub bottom_number : get_or rows.index r.bottom 0 ≡ index_of (lines_held rows) r.bottom
-  pub left_number : get_or columns.index r.left 0 ≡ index_of (lines_held columns) r.left
-  pub right_number : get_or columns.index r.right 0 ≡ index_of (lines_held columns) r.right
+  pub top_number : get_or rows.index r.top 0 ≡ index_of (lines_numbered rows) r.top
+  pub bottom_number : get_or rows.index r.bottom 0 ≡ index_of (lines_numbered rows) r.bottom
+  pub left_number : get_or columns.index r.left 0 ≡ index_of (lines_numbered columns) r.left
+  pub right_number : get_or columns.index r.right 0 ≡ index_of (lines_numbered columns) r.right

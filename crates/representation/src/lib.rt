@@ -1,6 +1,6 @@
 // The code's own definitions: how its arrays hold slots, rectangles, lines and entries, and an answer
 // in the parts in which the code makes it. In proofs/, that these agree with the rules' definitions.
-// No promise is read here.
+// What the calls promise is read in the rules crates.
 #![tactic(auto)]
 
 pub mod lent;
@@ -22,7 +22,28 @@ pub struct Bounds {
     pub ghost low: { (k : ℕ) → k < count → get_or lines k 0 < 128 },
 }
 
+// Lines and numbers as in `Bounds`, of which nothing is known: the lines may fall, or pass 127.
+#[derive(Clone, Copy)]
+pub struct Numbering {
+    pub lines: [u8; 128],
+    pub index: [u8; 128],
+    pub count: usize,
+}
+
 impl Bounds {
+    ghost use Rattle.representation.specs.LayoutEntries.{numbering_of};
+
+    // The lines and numbers alone.
+    pub fn numbering(&self) -> Numbering
+        ensures { result ≡ numbering_of self.now }
+    {
+        Numbering {
+            lines: self.lines,
+            index: self.index,
+            count: self.count,
+        }
+    }
+
     // How many columns (rows) lie between the lines.
     pub fn bands(&self) -> usize
         ensures { result ≡ self.now.count - 1 }

@@ -52,7 +52,8 @@ fn marks_end(line: &[u8], at: ByteAt) -> ByteAt
 }
 
 // The columns of a trimmed line that is UTF-8 of the set, whose slots go to the arrays from index `at` on as far as there are 128. Past
-// ASCII a character's first byte says its bytes, its columns and its glyph.
+// ASCII a character's first byte says its bytes, its columns and its glyph. Not inlined: within its caller too little of it is kept in registers.
+#[inline(never)]
 fn scan_line(
     line: &[u8],
     column: Column,

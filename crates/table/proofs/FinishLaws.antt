@@ -9,6 +9,7 @@ use borrow.Author.Tests.{ltb-false}
 use Rattle.seq.proofs.Tests.{or-neither}
 use Rattle.text.specs.Trim.{trim_end}
 use Rattle.text.specs.Lines.{no_text}
+use Rattle.grid.specs.Limits.{max_lines, max_cells}
 use Rattle.grid.specs.Answer.{accept, refuse, over}
 use Rattle.grid.specs.Values.{Rect}
 use Rattle.grid.specs.Flat.{TableArrays, table_arrays, split_text, join_text}
@@ -19,11 +20,13 @@ use Rattle.representation.specs.Edges.{Collected, row_lines_below, column_lines_
 use Rattle.representation.specs.LayoutEntries.{lines_held, column_entries}
 use Rattle.representation.specs.declared.Bounds.{Bounds}
 use Rattle.representation.specs.declared.Parts.{Parts}
-use Rattle.cell.specs.Text.{Source, source_in, kept_lines, all_lines, CountedBy, most_text, SourceReady}
+use Rattle.cell.specs.Text.{Source, source_in, kept_lines, all_lines, CountedBy, Preparable, most_text, SourceReady}
+use Rattle.cell.proofs.FrameLaws.{traced-framed}
 use Rattle.representation.specs.TableEntries.{section_entries, table_entries}
 use Rattle.table.specs.Room.{table_too_short}
 use Rattle.reading.specs.Call.{SheetArrays, lines_in, rects_in, TracedSheet}
 use Rattle.reading.specs.declared.Reading.{Reading}
+use Rattle.reading.proofs.SheetLaws.{traced-room}
 use Rattle.reading.proofs.CheckedLaws.{trimmed-text}
 use Rattle.layout.proofs.FoundLaws.{PartsFound, parts-head-line, tops-found, lefts-found, tops-found-count, lefts-found-count}
 use Rattle.table.specs.Needs.{Writable}
@@ -34,6 +37,21 @@ use Rattle.table.proofs.TableLaws.{table_sizes-told, table_short-told, table_arr
 abbrev short : TableArrays → ℕ → ℕ → ℕ → ℕ → ℕ → Bool
 short out across down n lines bytes =
     table_too_short (length out.columns) (length out.sections) (length out.cells) (length out.lengths) (length out.text) across down n lines bytes
+
+-- what measuring asks
+pub traced-preparable : (a : SheetArrays) (o : Reading) → TracedSheet a o → (starts counts : List ℕ) → (max_lines ≤ length starts) × (max_cells ≤ length counts)
+    → Preparable a.lengths a.columns a.text a.offsets a.rects o.cells starts counts
+traced-preparable a o t starts counts room =
+    record {
+      sheet = t.sheet;
+      few_bytes = t.few_bytes;
+      offset_room = t.roomy.offset_room;
+      few = t.through.few;
+      rect_room = traced-room a o t;
+      start_room = omega (arith, t.sheet.few_lines, room.0);
+      count_room = omega (arith, t.through.few, room.1);
+      framed = traced-framed a o t;
+    }
 
 -- ---- the lines found, and what was measured
 module _ {a : SheetArrays} {o : Reading} (t : TracedSheet a o) {tops lefts : Bounds}

@@ -22,7 +22,7 @@ use crate::cells::write_table_cells;
 use crate::lines::write_text;
 use crate::room::lacks_room;
 use crate::sections::write_sections;
-use cell::pieces::line_starts;
+use cell::pieces::prepare;
 use cell::source::Source;
 use layout::alignments::AlignmentLine;
 use layout::bounds::{col_bounds, row_bounds};
@@ -70,7 +70,9 @@ fn write_table(
         after ≡ table_over (table_arrays (table_from (lines_in sheet) rs)) before }
 {
     let source = Source {
-        drawing: traced.drawing,
+        lengths: traced.drawing.lengths,
+        columns: traced.drawing.columns,
+        text: traced.drawing.text,
         offsets: traced.offsets,
         starts,
     };
@@ -85,11 +87,12 @@ fn write_table(
         glyphs: traced.glyphs,
         offsets: traced.offsets,
         line: parts.head,
-        text: trimmed_line(traced.drawing, parts.head),
+        text: trimmed_line(traced.drawing.lengths, traced.drawing.text, parts.head),
     };
     write_columns(lefts, line, cols);
-    write_sections(tops, parts, sections);
-    write_table_cells(rects, tops, lefts, counts, cells);
+    let rows = tops.numbering();
+    write_sections(rows, parts, sections);
+    write_table_cells(rects, rows, lefts.numbering(), counts, cells);
     write_text(&source, rects, counts, out_lengths, out_text);
 }
 
@@ -115,20 +118,22 @@ fn finish(
         let rs = rects_in sheet traced.entry.reading.cells in
         after ≡ table_arrays_of (lines_in sheet) rs before }
 {
-    let lengths = traced.drawing.lengths;
+    let drawing = traced.drawing;
     let rects = Rects {
         array: traced.rects,
         count: traced.reading.cells,
     };
-    let tops = row_bounds(rects, lengths.len());
+    let tops = row_bounds(rects, drawing.lengths.len());
     let lefts = col_bounds(rects, traced.reading.width);
-    line_starts(lengths, starts);
-    let source = Source {
-        drawing: traced.drawing,
-        offsets: traced.offsets,
+    let text = prepare(
+        drawing.lengths,
+        drawing.columns,
+        drawing.text,
+        traced.offsets,
+        rects,
         starts,
-    };
-    let text = source.measure(rects, counts);
+        counts,
+    );
     let sizes = TableSizes {
         columns: lefts.bands(),
         rows: tops.bands(),

@@ -14,7 +14,7 @@ use text::ByteAt;
 
 // The lines of all cells, so many of each: their lengths, and their text back to back.
 pub fn write_text(
-    source: &Source<'_>,
+    source: &Source<'_, '_>,
     rects: Rects<'_>,
     counts: &[u8],
     out_lengths: &mut [u16],

@@ -104,6 +104,29 @@ put-counted d at b h = record { bytes = sym (put_down-past d at (b ∷ []) h); n
 put_down-rest : (d : List ℕ) (at : ℕ) (s t : List ℕ) → length d ≤ at + length s → put_down d at (s ++ t) ≡ put_down d at s
 put_down-rest d at s t h = sym (put_down-then d at s t) ∙ put_down-past (put_down d at s) (at + length s) t (omega (arith, put_down-length d at s))
 
+-- ---- several bytes one after the other, as many as fit from `at` on
+pub written_none : (d : List ℕ) (at : ℕ) (s : List ℕ) → Wrote d at (take 0 s) d (at + 0)
+written_none d at s = record { bytes = sym (put_down-none d at); next = refl }
+
+module _ {d e : List ℕ} (s : List ℕ) (at : ℕ) where
+  pub written_next : (i end : ℕ) → i < end → end ≡ min (length s) (length d - at) → Wrote d at (take i s) e (at + i)
+      → Wrote d at (take (i + 1) s) (set e (at + i) (get_or s i 0)) (at + (i + 1))
+  written_next i end h k p =
+      let same : length e ≡ length d = ap length p.bytes ∙ put_down-length d at (take i s) in
+      let next : at + (i + 1) ≡ at + i + 1 = omega arith in
+      let more : take (i + 1) s ≡ take i s ++ get_or s i 0 ∷ [] = rw add-one (take-suc s i 0 (omega arith)) in
+      rw (next, more) (wrote_then p (put_written e (at + i) (get_or s i 0) (omega arith)))
+
+  pub written_all : (i end : ℕ) → i ≤ end → end ≤ i → end ≡ min (length s) (length d - at) → Wrote d at (take i s) e (at + i) → Wrote d at s e (at + length s)
+  written_all i end h k f p = ⊎_elim all rest (le-or-lt (length s) i) where
+    all : length s ≤ i → Wrote d at s e (at + length s)
+    all u = record { bytes = p.bytes ∙ ap (put_down d at) (take_all i s u); next = refl }
+
+    rest : i < length s → Wrote d at s e (at + length s)
+    rest u =
+        let few : length d ≤ at + length (take i s) = omega (arith, length-take-le i s (omega arith)) in
+        record { bytes = p.bytes ∙ sym (put_down-rest d at (take i s) (drop i s) few) ∙ ap (put_down d at) (take-append-drop i s); next = refl }
+
 -- ---- several bytes: as many as fit, from `at` on or at the buffer's end
 module _ (d s : List ℕ) (at start count : ℕ) (begins : start ≡ min at (length d)) (fit : count ≡ min (length s) (length d - start)) where
   long : length (take count s) ≡ count

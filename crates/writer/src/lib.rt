@@ -22,9 +22,11 @@ pub fn copy(bytes: &[u8], out: &mut [u8], at: usize) -> usize
     requires { at + length bytes.now ≤ 18446744073709551615 }
     ensures { Wrote out.old at bytes.now out.new result }
 {
-    let start = at.min(out.len());
-    let count = bytes.len().min(out.len() - start);
-    out[start..start + count].copy_from_slice(&bytes[..count]);
+    let count = bytes.len().min(out.len().saturating_sub(at));
+    // Not copy_from_slice: tags and cut lines are short, and it calls a function for each.
+    for i in 0..count {
+        out[at + i] = bytes[i];
+    }
     at + bytes.len()
 }
 

@@ -18,7 +18,8 @@ use Rattle.grid.specs.Flat.{join_text}
 use Rattle.representation.specs.Arrays.{rects_of, rect_in}
 use Rattle.representation.proofs.RectsLaws.{length-rects, get_or-rects}
 use Rattle.seq.proofs.Positions.{get_or-mem}
-use Rattle.cell.specs.Text.{Source, kept_lines, all_lines, no_rect, Framed, AllFramed, CountedBy, most_text}
+use Rattle.cell.specs.Text.{Source, source, kept_lines, all_lines, no_rect, SourceReady, Framed, AllFramed, CountedBy, Preparable, Prepared, most_text}
+use Rattle.cell.specs.declared.pieces.TextSize.{TextSize}
 
 -- a text's bytes, line by line
 pub length-join : (l : List (List ℕ)) → length (join_text l) ≡ sum (map length l)
@@ -97,3 +98,16 @@ pub counted-here : (f : Rect → ℕ) (rects : List ℕ) (n : ℕ) (counts : Lis
     → get_or counts k 0 ≡ f (rect_in rects k)
 counted-here f rects n counts k counted h =
     counted.1 k (rw length-rects h) ∙ ap f (get_or-rects n k rects no_rect h)
+
+-- ---- with where lines start
+module _ (lengths columns text offsets rects : List ℕ) (n : ℕ) (starts₀ counts₀ : List ℕ) (p : Preparable lengths columns text offsets rects n starts₀ counts₀) (starts : List ℕ) where
+  pub preparable-ready : length lengths ≤ length starts → ((y : ℕ) → y < length lengths → get_or starts y 0 ≡ sum (take y lengths)) → SourceReady (source lengths columns text starts offsets)
+  preparable-ready room started = record { sheet = p.sheet; few_bytes = p.few_bytes; start_room = room; started = started; offset_room = p.offset_room }
+
+  pub preparable-prepared : (length starts ≡ length starts₀) × ((y : ℕ) → y < length lengths → get_or starts y 0 ≡ sum (take y lengths)) → (counts : List ℕ) (size : TextSize)
+      → (size.lines ≡ length (all_lines (source lengths columns text starts offsets) (rects_of n rects)))
+      × (size.bytes ≡ length (join_text (all_lines (source lengths columns text starts offsets) (rects_of n rects))))
+      × CountedBy (λ r. length (kept_lines (source lengths columns text starts offsets) r)) (rects_of n rects) counts × (size.bytes ≤ most_text)
+      → Prepared (source lengths columns text starts offsets) (rects_of n rects) counts size
+  preparable-prepared started counts size m =
+      record { ready = preparable-ready (omega (arith, p.start_room, started.0)) started.1; lines = m.0; bytes = m.1; counted = m.2; few_bytes = m.3 }

@@ -13,7 +13,7 @@ use Rattle.representation.specs.Arrays.{rect_in}
 use Rattle.writer.specs.Writing.{Wrote}
 use Rattle.writer.proofs.WritingLaws.{wrote_none, wrote_as}
 use Rattle.cm.specs.Board.{Board, no_box, Boxed, Inner, CanvasReady}
-use Rattle.cm.specs.Bears.{board_of, Ready}
+use Rattle.cm.specs.Bears.{board_of, Bears}
 use Rattle.cm.specs.declared.board.Board.{Board as Bordered}
 use Rattle.cm.proofs.lines.WalkLineLaws.{Stop, at_end, on_border, on_cell, Reached, box-frame, box-mem, code-border, reached-border, reached-cell}
 
@@ -21,8 +21,8 @@ use Rattle.cm.proofs.lines.WalkLineLaws.{Stop, at_end, on_border, on_cell, Reach
 abbrev pub Asked : ℕ → ℕ → Board → List ℕ → ℕ → ℕ → ℕ → Type 0
 Asked n width b canvas origin y at = (v : Canvas) × CanvasReady v n width b canvas × (y < canvas_height v) × (origin ≤ 255) × (at ≤ 1073741824)
 
-pub asked : (d : Bordered) (y at : ℕ) → Ready d → y < d.height → at ≤ 1073741824 → Asked d.cells d.width.0 (board_of d) d.canvas.now d.origin.0 y at
-asked d y at (v, R, tall) low early = (v, R, omega arith, d.near, early)
+pub asked : (d : Bordered) (y at : ℕ) → (v : Canvas) × Bears d v × (y < canvas_height v) → at ≤ 1073741824 → Asked d.cells d.width.0 (board_of d) d.canvas.now d.origin.0 y at
+asked d y at (v, R, low) early = (v, R, low, d.near, early)
 
 -- what the walk has come to, on every canvas that the arrays hold
 abbrev pub Walked : ℕ → ℕ → Board → List ℕ → ℕ → ℕ → ℕ → List ℕ → ℕ → List ℕ → ℕ → Type 0

@@ -16,7 +16,7 @@ use Rattle.drawing.specs.Plain.{Canvas, canvas_height, drawn_line, canvas_lines}
 use Rattle.writer.specs.Writing.{Wrote, put_down}
 use Rattle.writer.proofs.WritingLaws.{wrote_none, wrote_then, wrote_as}
 use Rattle.cm.specs.Board.{Board, CanvasReady}
-use Rattle.cm.specs.Bears.{Ready}
+use Rattle.cm.specs.Bears.{Bears, Ready}
 use Rattle.cm.specs.declared.board.Board.{Board as Bordered}
 use Rattle.cm.specs.Counted.{line_lengths, drawn_text, Counted}
 
@@ -35,6 +35,9 @@ first_lines-all o v y e = ap (first_lines o v) e
 
 pub board-low : (d : Bordered) → Ready d → d.height ≤ 128
 board-low d (v, R, tall) = omega (arith, R.boxed.low)
+
+pub line-low : (d : Bordered) (y : ℕ) → Ready d → y < d.height → (v : Canvas) × Bears d v × (y < canvas_height v)
+line-low d y (v, R, tall) low = (v, R, omega arith)
 
 -- ---- counted
 pub record CountedTo (o : ℕ) (v : Canvas) (y : ℕ) (lengths : List ℕ) (bytes : ℕ) : Type 0 where

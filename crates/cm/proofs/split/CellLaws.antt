@@ -15,16 +15,16 @@ use Rattle.representation.specs.Arrays.{rect_in}
 use Rattle.drawing.specs.Plain.{Box, Canvas, canvas_lines}
 use Rattle.drawing.specs.Redraw.{splits}
 use Rattle.cm.specs.Board.{no_box, lines_at}
-use Rattle.cm.specs.Bears.{LettersOf, Bears, Ready}
+use Rattle.cm.specs.Bears.{LettersOf, Bears}
 use Rattle.cm.specs.declared.board.Board.{Board}
 use Rattle.cm.specs.Hits.{Hittable, HitLines, split_column}
 use Rattle.cm.proofs.lines.WalkLineLaws.{boxes-count, box-frame, box-mem}
 use Rattle.cm.proofs.split.HitLinesLaws.{zeros-at}
 use Rattle.cm.proofs.split.SplitLaws.{splits-hit, splits-short, splits-apart, box-hittable}
 
-module _ (d : Board) (ready : Ready d) (k : ℕ) (few : k < d.cells) where
+module _ (d : Board) (ready : (v : Canvas) × Bears d v) (k : ℕ) (few : k < d.cells) where
   pub height-room : k < length d.lettering.heights.now
-  height-room = let (v, R, _) = ready in omega (arith, boxes-count R.boxed, R.boxed.lettered.height_room)
+  height-room = let (v, R) = ready in omega (arith, boxes-count R.boxed, R.boxed.lettered.height_room)
 
   module _ (r : Held) (is : rect_of r ≡ rect_in d.rects.now k) where
     abbrev lines : ℕ
@@ -35,7 +35,7 @@ module _ (d : Board) (ready : Ready d) (k : ℕ) (few : k < d.cells) where
 
     sized : (r.top + 1 < r.bottom) × (r.bottom < 128) × (r.left.0 + 1 < r.right.0) × (r.right.0 < 128)
     sized =
-        let (v, R, _) = ready in
+        let (v, R) = ready in
         let f = frame v R in
         let B = R.boxed in
         let s = B.lined.written.tiled.sized (get_or v.boxes k no_box) (box-mem B k few) in
@@ -55,7 +55,7 @@ module _ (d : Board) (ready : Ready d) (k : ℕ) (few : k < d.cells) where
     column-low = (omega (arith, sized), omega (arith, sized), omega (arith, sized), omega (arith, sized))
 
     pub canvas-room : slot_space ≤ length d.canvas.now
-    canvas-room = let (v, R, _) = ready in R.canvas_room
+    canvas-room = let (v, R) = ready in R.canvas_room
 
     pub lines-low : (d.origin.0 + r.left.0 + 2 ≤ 1024) × (lines < 128)
     lines-low = let near = d.near in (omega (arith, sized), omega (arith, sized))
@@ -66,11 +66,11 @@ module _ (d : Board) (ready : Ready d) (k : ℕ) (few : k < d.cells) where
 
     pub lines-asked : (bs : List Box) × LettersOf d.lettering bs × (k < length bs) × Hittable (d.origin.0 + r.left.0 + 2) (r.left.0 + 2) (lines_at bs k)
     lines-asked =
-        let (v, R, _) = ready in
+        let (v, R) = ready in
         (v.boxes, R.boxed.lettered, omega (arith, boxes-count R.boxed), rw (ap (λ (r : Rect). r.left) (frame v R)) at (box-hittable R d.origin.0 k few d.near))
 
     pub hits-room : (hits : List ℕ) → Hits hits → length hits ≡ 128
-    hits-room hits told = let (v, R, _) = ready in (told v.boxes R.boxed.lettered (omega (arith, boxes-count R.boxed))).room
+    hits-room hits told = let (v, R) = ready in (told v.boxes R.boxed.lettered (omega (arith, boxes-count R.boxed))).room
 
     module _ (v : Canvas) (R : Bears d v) where
       pub cell-short : get_or d.lettering.heights.now k 0 < lines → false ≡ splits (grid_of (canvas_lines d.origin.0 v)) (rect_in d.rects.now k)

@@ -16,38 +16,38 @@ use Rattle.representation.specs.Traced.{rects_held}
 use Rattle.representation.specs.declared.rect.Rect.{Rect}
 use Rattle.representation.specs.declared.rects.Rects.{Rects}
 use Rattle.representation.proofs.RectsLaws.{length-rects, get_or-rects}
-use Rattle.representation.specs.declared.Bounds.{Bounds}
-use Rattle.representation.specs.LayoutEntries.{lines_held, cell_entries, Numbered}
+use Rattle.representation.specs.declared.Numbering.{Numbering}
+use Rattle.representation.specs.LayoutEntries.{lines_numbered, cell_entries, Numbered}
 use Rattle.representation.specs.TableEntries.{table_entry, table_entries}
 use Rattle.layout.specs.Written.{MoreIn}
 use Rattle.representation.proofs.HeldLaws.{no_rect, rect-holds, index-grows}
 
-pub record SpansWritten (rects : Rects) (rows columns : Bounds) (array : List ℕ) (step from : ℕ) (buffer : List ℕ) (k : ℕ) (out : List ℕ) : Type 0 where
+pub record SpansWritten (rects : Rects) (rows columns : Numbering) (array : List ℕ) (step from : ℕ) (buffer : List ℕ) (k : ℕ) (out : List ℕ) : Type 0 where
   pub kept : length out ≡ length buffer
-  pub entries : (f : grid.Rect → ℕ) → MoreIn f rects array step from → Written (table_entry f (lines_held rows) (lines_held columns)) (rects_held rects) 0 buffer k out
+  pub entries : (f : grid.Rect → ℕ) → MoreIn f rects array step from → Written (table_entry f (lines_numbered rows) (lines_numbered columns)) (rects_held rects) 0 buffer k out
 
-pub no_span : (rects : Rects) (rows columns : Bounds) (array : List ℕ) (step from : ℕ) (buffer : List ℕ) → SpansWritten rects rows columns array step from buffer 0 buffer
+pub no_span : (rects : Rects) (rows columns : Numbering) (array : List ℕ) (step from : ℕ) (buffer : List ℕ) → SpansWritten rects rows columns array step from buffer 0 buffer
 no_span rects rows columns array step from buffer =
     record {
       kept = refl;
-      entries = λ f more. none_written (table_entry f (lines_held rows) (lines_held columns)) (rects_held rects) 0 buffer;
+      entries = λ f more. none_written (table_entry f (lines_numbered rows) (lines_numbered columns)) (rects_held rects) 0 buffer;
     }
 
 -- a rectangle's edges have their numbers, in order
-module _ (rects : Rects) (rows columns : Bounds) (numbered : (r : grid.Rect) → Memᴰ r (rects_held rects) → Numbered rows columns r)
+module _ (rects : Rects) (rows columns : Numbering) (numbered : (r : grid.Rect) → Memᴰ r (rects_held rects) → Numbered rows columns r)
     (k : ℕ) (h : k < rects.count) (r : Rect) (e : rect_of r ≡ rect_in rects.array.now k) where
   here : Numbered rows columns (rect_of r)
   here = subst (Numbered rows columns) (sym e) (rect-holds (Numbered rows columns) rects.array.now rects.count k h numbered)
 
   pub rows-in-order : get_or rows.index r.top 0 ≤ get_or rows.index r.bottom 0
-  rows-in-order = rw (here.top_number, here.bottom_number) (index-grows (lines_held rows) r.top r.bottom (omega (arith, here.inside.down)))
+  rows-in-order = rw (here.top_number, here.bottom_number) (index-grows (lines_numbered rows) r.top r.bottom (omega (arith, here.inside.down)))
 
   pub columns-in-order : get_or columns.index r.left.0 0 ≤ get_or columns.index r.right.0 0
-  columns-in-order = rw (here.left_number, here.right_number) (index-grows (lines_held columns) r.left.0 r.right.0 (omega (arith, here.inside.across)))
+  columns-in-order = rw (here.left_number, here.right_number) (index-grows (lines_numbered columns) r.left.0 r.right.0 (omega (arith, here.inside.across)))
 
   -- one turn, whatever the number more
   span-next : (more : grid.Rect → ℕ) (v : ℕ) (buffer out out' : List ℕ) → 5 * rects.count ≤ length buffer → v ≡ more (rect_in rects.array.now k)
-      → Written (table_entry more (lines_held rows) (lines_held columns)) (rects_held rects) 0 buffer k out
+      → Written (table_entry more (lines_numbered rows) (lines_numbered columns)) (rects_held rects) 0 buffer k out
       → out' ≡ take (5 * k) out
       ++ (get_or rows.index r.top 0
       ∷ get_or columns.index r.left.0 0
@@ -55,16 +55,16 @@ module _ (rects : Rects) (rows columns : Bounds) (numbered : (r : grid.Rect) →
       ∷ (get_or rows.index r.bottom 0 - get_or rows.index r.top 0)
       ∷ v ∷ [])
       ++ drop (5 * k + 5) out
-      → Written (table_entry more (lines_held rows) (lines_held columns)) (rects_held rects) 0 buffer (k + 1) out'
+      → Written (table_entry more (lines_numbered rows) (lines_numbered columns)) (rects_held rects) 0 buffer (k + 1) out'
   span-next more v buffer out out' room f w g =
-      let entries = table_entry more (lines_held rows) (lines_held columns) in
+      let entries = table_entry more (lines_numbered rows) (lines_numbered columns) in
       let before : length (flat_map entries (take k (rects_held rects))) ≡ 5 * k =
       length-flat_map 5 entries (take k (rects_held rects)) (λ r. refl) ∙ rw (length-take-le k (rects_held rects) (rw length-rects (omega arith))) in
       let own : entries (get_or (rects_held rects) k no_rect) ≡ entries (rect_of r) = ap entries (get_or-rects rects.count k rects.array.now no_rect h ∙ sym e) in
       write-more entries (rects_held rects) 0 buffer out k no_rect (rw length-rects h) w (5 * k) out' (rw (before, zero-add)) (omega arith)
       (rw (own, e, ← f) (rw (here.top_number, here.bottom_number, here.left_number, here.right_number) at g))
 
-module _ (rects : Rects) (rows columns : Bounds) (array : List ℕ) (step from : ℕ) (buffer out : List ℕ) (k : ℕ)
+module _ (rects : Rects) (rows columns : Numbering) (array : List ℕ) (step from : ℕ) (buffer out : List ℕ) (k : ℕ)
     (w : SpansWritten rects rows columns array step from buffer k out) where
   pub spans-next : k < rects.count → ((r : grid.Rect) → Memᴰ r (rects_held rects) → Numbered rows columns r) → (r : Rect) → rect_of r ≡ rect_in rects.array.now k
       → (out' : List ℕ) → 5 * rects.count ≤ length buffer
@@ -83,13 +83,13 @@ module _ (rects : Rects) (rows columns : Bounds) (array : List ℕ) (step from :
       }
 
   pub spans-done : rects.count ≤ k → (f : grid.Rect → ℕ) → MoreIn f rects array step from
-      → out ≡ over (table_entries f (lines_held rows) (lines_held columns) (rects_held rects)) buffer
+      → out ≡ over (table_entries f (lines_numbered rows) (lines_numbered columns) (rects_held rects)) buffer
   spans-done h f more =
-      all-written (table_entry f (lines_held rows) (lines_held columns)) (rects_held rects) 0 buffer out k (rw length-rects h) (w.entries f more)
+      all-written (table_entry f (lines_numbered rows) (lines_numbered columns)) (rects_held rects) 0 buffer out k (rw length-rects h) (w.entries f more)
       ∙ rw zero-add
 
 -- the left columns, as they stand in the rectangles
-pub lefts-written : (rects : Rects) (rows columns : Bounds) (buffer out : List ℕ)
-    → ((f : grid.Rect → ℕ) → MoreIn f rects rects.array.now 4 1 → out ≡ over (table_entries f (lines_held rows) (lines_held columns) (rects_held rects)) buffer)
-    → out ≡ over (cell_entries (lines_held rows) (lines_held columns) (rects_held rects)) buffer
+pub lefts-written : (rects : Rects) (rows columns : Numbering) (buffer out : List ℕ)
+    → ((f : grid.Rect → ℕ) → MoreIn f rects rects.array.now 4 1 → out ≡ over (table_entries f (lines_numbered rows) (lines_numbered columns) (rects_held rects)) buffer)
+    → out ≡ over (cell_entries (lines_numbered rows) (lines_numbered columns) (rects_held rects)) buffer
 lefts-written rects rows columns buffer out written = written (λ r. r.left) (λ k h. refl)

@@ -36,11 +36,12 @@ invariant_of-line c =
 
 pub write_layout-requires : goal.write_layout-requires
 write_layout-requires c =
-    finish-writable c.args.traced.traced (layout_lent c.args.cols.now c.args.rows.now c.args.cells.now c.args.ranges.now) c.measure-measured.ensures.told (sym c.measure-measured.ensures.short_told ∙ c.if-measured.false) _
-    (c.find_parts-parts.ensures.head, c.find_parts-parts.ensures.foot)
+    rw c.numbering.ensures
+    (finish-writable c.args.traced.traced (layout_lent c.args.cols.now c.args.rows.now c.args.cells.now c.args.ranges.now) c.measure-measured.ensures.told (sym c.measure-measured.ensures.short_told ∙ c.if-measured.false) _
+    (c.find_parts-parts.ensures.head, c.find_parts-parts.ensures.foot))
 
 pub returns : goal.returns
 returns c =
     finish-written c.args.traced.traced (layout_lent c.args.cols.now c.args.rows.now c.args.cells.now c.args.ranges.now) c.measure-measured.ensures.told (sym c.measure-measured.ensures.short_told ∙ c.if-measured.false) _
     (c.find_parts-parts.ensures.head, c.find_parts-parts.ensures.foot) c.trimmed_line.ensures
-    c.write_layout.ensures.columns c.write_layout.ensures.rows c.write_layout.ensures.cells c.write_layout.ensures.ranges
+    c.write_layout.ensures.columns (rw c.numbering.ensures at c.write_layout.ensures.rows) (rw c.numbering.ensures at c.write_layout.ensures.cells) c.write_layout.ensures.ranges

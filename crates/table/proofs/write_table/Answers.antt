@@ -38,10 +38,10 @@ write_table_cells-requires c =
     record {
       room = c.requires.cell_room;
       count_room = writable-count-room c.args.traced.traced c.requires;
-      numbered = rects-found-numbered c.args.traced.traced c.requires.rows_found c.requires.columns_found;
+      numbered = rw (c.numbering-rows.ensures, c.numbering.ensures) (rects-found-numbered c.args.traced.traced c.requires.rows_found c.requires.columns_found);
     }
 
 pub returns : goal.returns
 returns c =
     writable-written c.args.traced.traced c.requires _ (c.find_parts-parts.ensures.head, c.find_parts-parts.ensures.foot) c.trimmed_line.ensures
-    c.write_columns.ensures c.write_sections.ensures c.write_table_cells.ensures c.write_text.ensures.lengths_written c.write_text.ensures.text_written
+    c.write_columns.ensures (rw c.numbering-rows.ensures at c.write_sections.ensures) (rw (c.numbering-rows.ensures, c.numbering.ensures) at c.write_table_cells.ensures) c.write_text.ensures.lengths_written c.write_text.ensures.text_written

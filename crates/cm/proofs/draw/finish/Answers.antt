@@ -14,6 +14,9 @@ pub returns-then-lines_too_large : goal.returns-then-lines_too_large
 returns-then-lines_too_large c =
     λ v R h. late-large R _ _ h c.args.board.now.near _ (c.count_lines-sizes.ensures v R h) _ _ c.lines_too_large.ensures c.if-lines_too_large.true
 
+pub first_split-requires : goal.first_split-requires
+first_split-requires c = let (v, R, _) = c.requires in (v, R)
+
 pub returns-in-Some : goal.returns-in-Some
 returns-in-Some c =
     λ v R h. late-split R _ _ h c.args.board.now.near _ (c.count_lines-sizes.ensures v R h) _ _ c.lines_too_large.ensures c.if-lines_too_large.false _ _ (c.first_split.ensures v R) c.in-Some.is

@@ -1,11 +1,14 @@
 use mathlib.Core.Path.{refl}
 use native.Mathlib.Omega.{arith}
 use borrow.Author.Rules.{rules}
-use Rattle.cm.proofs.output.OutputLaws.{written_none, written_next, written_all}
+use Rattle.cm.proofs.output.OutputLaws.{line-low, written_none, written_next, written_all}
 use Rattle.cm.proofs.output.write_lines.Goals as goal
 
 pub loop-y-init : goal.loop-y-init
 loop-y-init c = record { few = omega arith; kept = refl; written = written_none _ _ }
+
+pub write_line-at-requires-clause-ready : goal.write_line-at-requires-clause-ready
+write_line-at-requires-clause-ready c = line-low c.args.board.now _ c.requires c.loop-y-test.true
 
 pub loop-y-preserved : goal.loop-y-preserved
 loop-y-preserved c =
